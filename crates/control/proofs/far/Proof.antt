@@ -1,0 +1,39 @@
+use borrow.Author.Needs.{needs}
+use Rattle.control.proofs.far.Statement.{statement}
+use Rattle.control.proofs.far.Tie as tie
+use borrow.Author.Tests.{leb-true}
+use native.Mathlib.Omega.{arith}
+use mathlib.Core.Path.{sym, _∙_}
+use Prim.Native.Nat.{_+_, _≤_}
+use lib.ListN.{length}
+use denote.Ref.{now}
+use Rattle.number.proofs.ByteLaws.{small}
+
+room-requires : tie.Need-room-requires
+room-requires c κs = search needs
+
+be-requires : tie.Need-be-requires
+be-requires c κs =
+    let a = c .before .before .before .args in
+    let h : a .p + a .n ≤ length (now (a .s)) = leb-true _ _ (sym (c .before .room .ensures) ∙ c .if1 .taken) in
+    (omega arith, h)
+
+add-t10 : tie.Need-add-t10
+add-t10 c =
+    let h = small (c .before .before .before .before .args .n) 32 (c .be .ensures .1) (omega arith) in
+    omega arith
+
+add-t11 : tie.Need-add-t11
+add-t11 c =
+    let a = c .before .before .before .before .args in
+    let h : a .p + a .n ≤ length (now (a .s)) = leb-true _ _ (sym (c .before .before .room .ensures) ∙ c .before .if1 .taken) in
+    omega arith
+
+returns : tie.Need-returns
+returns c = simp (sym (c .before .before .room .ensures) ∙ c .before .if1 .taken, c .be .ensures .0)
+
+returns-2 : tie.Need-returns-2
+returns-2 c = simp (sym (c .before .room .ensures) ∙ c .if1 .left)
+
+pub far-spec : {M : Type 1} → statement M
+far-spec = tie.close (tie.spec room-requires be-requires add-t10 add-t11 returns returns-2)
