@@ -45,8 +45,11 @@ typeNumber kind.Boolean = 14
 typeNumber kind.Float = 15
 typeNumber kind.Unknown = 0
 
+abbrev pub isType : Kind → ℕ → Bool
+isType k n = eqb (typeNumber k) n
+
 abbrev pub isPointer : Kind → Bool
-isPointer k = eqb (typeNumber k) 1
+isPointer k = isType k 1
 
 -- a size with n more bytes, which count from base
 abbrev pub moreAt : List ℕ → Kind → ℕ → ℕ → ℕ → Head

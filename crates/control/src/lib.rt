@@ -1,11 +1,19 @@
 // Control bytes of a section: kind, size, pointers. A section is a slice; places count from its start.
 ghost use mathlib.Core.Path.{_≡_};
 ghost use Prim.Native.Nat.{_≤_, _<_, _^_};
-ghost use Rattle.control.specs.Control.{kindOf, isPointer, moreAt, sizeAt, sizedAt, headAt};
+ghost use Rattle.control.specs.Control.{kindOf, typeNumber, isType, moreAt, sizeAt, sizedAt, headAt};
 ghost use Rattle.control.specs.Pointers.{farAt, linkAt, onTarget, behindAt};
 use number::be;
 use number::room;
 use number::wide;
+
+pub const TYPE_POINTER: usize = 1;
+
+pub const TYPE_STRING: usize = 2;
+
+pub const TYPE_MAP: usize = 7;
+
+pub const TYPE_ARRAY: usize = 11;
 
 // The kinds of values, by the type numbers; Unknown is every number that stands for none.
 pub enum Kind {
@@ -63,13 +71,32 @@ pub fn kind_of(number: usize) -> Kind
     }
 }
 
-pub fn is_pointer(kind: Kind) -> bool
-    ensures { λ r. ⌜ r ≡ isPointer kind ⌝ }
+// The type number again, by which kinds are told apart; an unknown kind's is gone.
+fn type_number(kind: Kind) -> usize
+    ensures { λ r. ⌜ r ≡ typeNumber kind ⌝ }
 {
     match kind {
-        Kind::Pointer => true,
-        _ => false,
+        Kind::Pointer => 1,
+        Kind::Text => 2,
+        Kind::Double => 3,
+        Kind::Bytes => 4,
+        Kind::U16 => 5,
+        Kind::U32 => 6,
+        Kind::Map => 7,
+        Kind::I32 => 8,
+        Kind::U64 => 9,
+        Kind::U128 => 10,
+        Kind::Array => 11,
+        Kind::Boolean => 14,
+        Kind::Float => 15,
+        Kind::Unknown => 0,
     }
+}
+
+pub fn is_type(kind: Kind, number: usize) -> bool
+    ensures { λ r. ⌜ r ≡ isType kind number ⌝ }
+{
+    type_number(kind) == number
 }
 
 // A size with `n` bytes more, which count from `base`.
@@ -108,7 +135,7 @@ fn size_from_code(s: &[u8], kind: Kind, code: usize, p: usize) -> Head
 fn sized(s: &[u8], kind: Kind, code: usize, p: usize) -> Head
     ensures { λ r. ⌜ r ≡ sizedAt (now (s .entry)) kind code p ⌝ }
 {
-    if is_pointer(kind) {
+    if is_type(kind, TYPE_POINTER) {
         Head::At {
             kind,
             size: code,
@@ -175,7 +202,7 @@ fn at_target(s: &[u8], target: usize) -> Head
             size,
             payload,
         } => {
-            if is_pointer(kind) {
+            if is_type(kind, TYPE_POINTER) {
                 Head::Bad
             } else {
                 Head::At {
@@ -199,7 +226,7 @@ pub fn behind(s: &[u8], at: usize) -> Head
             size,
             payload,
         } => {
-            if is_pointer(kind) {
+            if is_type(kind, TYPE_POINTER) {
                 match decode_pointer(s, size, payload) {
                     Link::To { target, next: _ } => at_target(s, target),
                     Link::Broken => Head::Bad,

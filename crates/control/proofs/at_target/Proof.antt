@@ -9,17 +9,17 @@ size-and-type-requires c κs = search needs
 enum-known-kind : tie.Need-enum-known-kind
 enum-known-kind c = search needs
 
-is-pointer-requires : tie.Need-is-pointer-requires
-is-pointer-requires c κs = search needs
+is-type-requires : tie.Need-is-type-requires
+is-type-requires c κs = search needs
 
 enum-told : tie.Need-enum-told
 enum-told c = search needs
 
 returns : tie.Need-returns
-returns c = simp (sym (c .before .before .before .before .before .size-and-type .ensures) ∙ c .before .before .before .kind .given .1, sym (c .before .is-pointer .ensures) ∙ c .if1 .taken)
+returns c = simp (sym (c .before .before .before .before .before .size-and-type .ensures) ∙ c .before .before .before .kind .given .1, sym (c .before .is-type .ensures) ∙ c .if1 .taken)
 
 returns-2 : tie.Need-returns-2
-returns-2 c = simp (sym (c .before .before .before .before .before .size-and-type .ensures) ∙ c .before .before .before .kind .given .1, sym (c .before .is-pointer .ensures) ∙ c .if1 .left)
+returns-2 c = simp (sym (c .before .before .before .before .before .size-and-type .ensures) ∙ c .before .before .before .kind .given .1, sym (c .before .is-type .ensures) ∙ c .if1 .left)
 
 returns-3 : tie.Need-returns-3
 returns-3 c = simp (sym (c .before .before .size-and-type .ensures) ∙ c .enum-told .given .1)
@@ -30,7 +30,7 @@ at-target-spec =
     (tie.spec
     size-and-type-requires
     enum-known-kind
-    is-pointer-requires
+    is-type-requires
     enum-told
     returns
     returns-2

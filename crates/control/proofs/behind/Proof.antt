@@ -10,8 +10,8 @@ size-and-type-requires c κs = search needs
 enum-known-kind : tie.Need-enum-known-kind
 enum-known-kind c = search needs
 
-is-pointer-requires : tie.Need-is-pointer-requires
-is-pointer-requires c κs = search needs
+is-type-requires : tie.Need-is-type-requires
+is-type-requires c κs = search needs
 
 decode-pointer-requires : tie.Need-decode-pointer-requires
 decode-pointer-requires c κs = search needs
@@ -30,15 +30,15 @@ enum-told-2 c = search needs
 
 returns : tie.Need-returns
 unfolding behindAt
-returns c = simp (sym (c .before .before .before .before .before .before .before .before .before .before .size-and-type .ensures) ∙ c .before .before .before .before .before .before .before .before .kind .given .1, sym (c .before .before .before .before .before .before .is-pointer .ensures) ∙ c .before .before .before .before .before .if1 .taken, sym (c .before .before .before .before .decode-pointer .ensures) ∙ c .before .before .target .given .1, c .at-target .ensures)
+returns c = simp (sym (c .before .before .before .before .before .before .before .before .before .before .size-and-type .ensures) ∙ c .before .before .before .before .before .before .before .before .kind .given .1, sym (c .before .before .before .before .before .before .is-type .ensures) ∙ c .before .before .before .before .before .if1 .taken, sym (c .before .before .before .before .decode-pointer .ensures) ∙ c .before .before .target .given .1, c .at-target .ensures)
 
 returns-2 : tie.Need-returns-2
 unfolding behindAt
-returns-2 c = simp (sym (c .before .before .before .before .before .before .before .before .size-and-type .ensures) ∙ c .before .before .before .before .before .before .kind .given .1, sym (c .before .before .before .before .is-pointer .ensures) ∙ c .before .before .before .if1 .taken, sym (c .before .before .decode-pointer .ensures) ∙ c .enum-told .given .1)
+returns-2 c = simp (sym (c .before .before .before .before .before .before .before .before .size-and-type .ensures) ∙ c .before .before .before .before .before .before .kind .given .1, sym (c .before .before .before .before .is-type .ensures) ∙ c .before .before .before .if1 .taken, sym (c .before .before .decode-pointer .ensures) ∙ c .enum-told .given .1)
 
 returns-3 : tie.Need-returns-3
 unfolding behindAt
-returns-3 c = simp (sym (c .before .before .before .before .before .size-and-type .ensures) ∙ c .before .before .before .kind .given .1, sym (c .before .is-pointer .ensures) ∙ c .if1 .left)
+returns-3 c = simp (sym (c .before .before .before .before .before .size-and-type .ensures) ∙ c .before .before .before .kind .given .1, sym (c .before .is-type .ensures) ∙ c .if1 .left)
 
 returns-4 : tie.Need-returns-4
 unfolding behindAt
@@ -50,7 +50,7 @@ behind-spec =
     (tie.spec
     size-and-type-requires
     enum-known-kind
-    is-pointer-requires
+    is-type-requires
     decode-pointer-requires
     enum-known-target
     at-target-requires
