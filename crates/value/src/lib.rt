@@ -2,14 +2,22 @@
 ghost use mathlib.Core.Path.{_≡_};
 ghost use Prim.Native.Nat.{_+_, _≤_};
 ghost use lib.ListN.{length};
+ghost use denote.Ref.{ptr};
 ghost use Rattle.stored.specs.Stored.{Lies};
 ghost use Rattle.value.specs.Numbers.{signed32, doubleOf, floatOf, wideAt};
 ghost use Rattle.value.specs.Value.{ifWithin, textAt, valueOf, readAt};
+ghost use Rattle.value.specs.Parts.{sizeOf, partAt, spanned};
+ghost use Rattle.value.specs.Empty.{emptyOf, emptyAt};
 use charge::Charge;
 use charge::Charged;
 use charge::count_payload;
 use charge::reserve_values;
+use control::Head;
 use control::Kind;
+use control::TYPE_ARRAY;
+use control::TYPE_MAP;
+use control::behind;
+use control::is_type;
 use number::be;
 use refusal::MALFORMED;
 use stored::Layout;
@@ -129,5 +137,96 @@ pub fn read(s: &[u8], at: usize, c: Charge) -> Value
             next: _,
         } => value_of(s, kind, size, payload, c),
         Layout::Bad => Value::Refused(MALFORMED),
+    }
+}
+
+// How many bytes a text has, or a value of bytes: nothing for another value.
+pub enum Extent {
+    Of(usize),
+    Nothing,
+}
+
+fn payload_size(v: Value, bytes: bool) -> Extent
+    ensures { λ r. ⌜ r ≡ sizeOf bytes v ⌝ }
+{
+    match v {
+        Value::Map(_) => Extent::Nothing,
+        Value::Array(_) => Extent::Nothing,
+        Value::Text(n) => {
+            if bytes {
+                Extent::Nothing
+            } else {
+                Extent::Of(n)
+            }
+        }
+        Value::Bytes(n) => {
+            if bytes {
+                Extent::Of(n)
+            } else {
+                Extent::Nothing
+            }
+        }
+        Value::U16(_) => Extent::Nothing,
+        Value::U32(_) => Extent::Nothing,
+        Value::U64(_) => Extent::Nothing,
+        Value::U128(_, _) => Extent::Nothing,
+        Value::I32(_) => Extent::Nothing,
+        Value::Boolean(_) => Extent::Nothing,
+        Value::Double(_, _) => Extent::Nothing,
+        Value::Float(_, _) => Extent::Nothing,
+        Value::Refused(_) => Extent::Nothing,
+    }
+}
+
+// The bytes of a text, or of a value of bytes, where they lie: the section's first 0 bytes where reading refuses or gives another kind.
+pub fn part<'a>(s: &'a [u8], at: usize, c: Charge, bytes: bool) -> &'a [u8]
+    ensures { λ r. ⌜ now r ≡ spanned (now (s .entry)) (partAt (now (s .entry)) at c bytes) ⌝ }
+    ensures { λ r. ⌜ ptr r ≡ (ptr (s .entry) .0, ptr (s .entry) .1 + partAt (now (s .entry)) at c bytes .0) ⌝ }
+{
+    match resolved(s, at) {
+        Layout::At {
+            kind,
+            size,
+            payload,
+            next: _,
+        } => match payload_size(value_of(s, kind, size, payload, c), bytes) {
+            Extent::Of(n) => &s[payload..payload + n],
+            Extent::Nothing => &s[..0],
+        },
+        Layout::Bad => &s[..0],
+    }
+}
+
+// Whether a map or an array without children stands at a place; the header alone decides.
+pub enum Emptiness {
+    Empty,
+    Holds,
+    Malformed,
+}
+
+fn is_empty(kind: Kind, size: usize) -> Emptiness
+    ensures { λ r. ⌜ r ≡ emptyOf kind size ⌝ }
+{
+    if size == 0 {
+        if is_type(kind, TYPE_MAP) {
+            return Emptiness::Empty;
+        }
+        if is_type(kind, TYPE_ARRAY) {
+            return Emptiness::Empty;
+        }
+    }
+    Emptiness::Holds
+}
+
+pub fn is_empty_value_at(s: &[u8], at: usize) -> Emptiness
+    ensures { λ r. ⌜ r ≡ emptyAt (now (s .entry)) at ⌝ }
+{
+    match behind(s, at) {
+        Head::At {
+            kind,
+            size,
+            payload: _,
+        } => is_empty(kind, size),
+        Head::Bad => Emptiness::Malformed,
     }
 }
