@@ -1,0 +1,4 @@
+-- The laws that the proofs cite, and cases worked by hand.
+pub mod RecordLaws
+pub mod MarkerLaws
+pub mod Worked
