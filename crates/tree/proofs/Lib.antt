@@ -1,4 +1,5 @@
 -- The laws that the proofs cite, and cases worked by hand.
 pub mod RecordLaws
+pub mod LookupLaws
 pub mod MarkerLaws
 pub mod Worked

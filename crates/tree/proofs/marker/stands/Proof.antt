@@ -26,7 +26,7 @@ array-read-if1 : tie.Need-array-read-if1 Inv-loop μ-loop
 array-read-if1 c = omega arith
 
 returns : tie.Need-returns Inv-loop μ-loop
-returns c = sym (agree-stop _ _ _ (c .if1 .taken) 14 (c .before .before .loop-test .taken))
+returns c = sym (agree-stop _ _ _ (c .if1 .taken) 14 (omega arith))
 
 add-k : tie.Need-add-k Inv-loop μ-loop
 add-k c = omega arith
