@@ -1,12 +1,12 @@
 -- What a handle that fits says, as plain facts.
 use Prim.Native.Nat.{ℕ, _+_, _-_, _*_, _/_, _^_, _≤_}
 use mathlib.Core.Path.{_≡_, refl}
-use mathlib.Core.Bool.{Bool, true, false, cond, _&&_, _||_, false≢true}
+use mathlib.Core.Bool.{Bool, true, false, not, _&&_, _||_, false≢true}
 use mathlib.Core.Logic.{_⊎_, inl, inr, ⊎-elim}
 use native.Mathlib.Nat.{mul-le-mul}
 use native.Mathlib.Omega.{arith}
 use lib.Dec.{eqb, leb}
-use borrow.Author.Tests.{eqb-true, eqb-false, leb-true, eq-eqb, le-leb}
+use borrow.Author.Tests.{eqb-true, leb-true, eq-eqb, le-leb}
 use Rattle.handle.specs.Handle.{imageBound, versionKnown, sizeKnown, numbersKnown, dataStart, sectionsFit, ipv4Fits, fitsOf}
 use Rattle.handle.specs.declared.Handle.{Handle}
 
@@ -48,21 +48,10 @@ pub record Fit (h : Handle) (n : ℕ) : Type 0 where
   pub narrow : h .start4 ≤ 2 ^ 32 - 1
   pub only4 : h .version ≡ 4 → (h .start4 ≡ 0) × (h .depth4 ≡ 0)
 
-abbrev Ipv4 : ℕ → ℕ → ℕ → Type 0
-Ipv4 v start depth = (depth ≤ 96) × (start ≤ 2 ^ 32 - 1) × (v ≡ 4 → (start ≡ 0) × (depth ≡ 0))
-
-ipv4 : (v start depth : ℕ) → cond (eqb v 4) (eqb start 0 && eqb depth 0) (leb depth 96 && leb start (2 ^ 32 - 1)) ≡ true → Ipv4 v start depth
-ipv4 v start depth e = pick (eqb v 4) refl e
-  where
-    pick : (t : Bool) → eqb v 4 ≡ t → cond t (eqb start 0 && eqb depth 0) (leb depth 96 && leb start (2 ^ 32 - 1)) ≡ true → Ipv4 v start depth
-    pick true t p =
-        let b = both (eqb start 0) (eqb depth 0) p in
-        let s : start ≡ 0 = eqb-true start 0 (b .0) in
-        let d : depth ≡ 0 = eqb-true depth 0 (b .1) in
-        (omega arith, omega arith, λ q. (s, d))
-    pick false t p =
-        let b = both (leb depth 96) (leb start (2 ^ 32 - 1)) p in
-        (leb-true depth 96 (b .0), leb-true start (2 ^ 32 - 1) (b .1), λ q. absurd (eqb-false v 4 t q))
+only-4 : (v start depth : ℕ) → (not (eqb v 4) || (eqb start 0 && eqb depth 0)) ≡ true → v ≡ 4 → (start ≡ 0) × (depth ≡ 0)
+only-4 v start depth e f =
+    let b = both (eqb start 0) (eqb depth 0) (rw (eq-eqb v 4 f) at e) in
+    (eqb-true start 0 (b .0), eqb-true depth 0 (b .1))
 
 numbers : (h : Handle) → numbersKnown h ≡ true → (versionKnown (h .version) ≡ true) × (1 ≤ h .nodes) × (h .nodes ≤ 2 ^ 32 - 1) × Sized (h .size)
 numbers h e =
@@ -80,7 +69,8 @@ fit h n e =
     let k = numbers h (c .1) in
     let s = both (eqb (h .base) (dataStart (h .nodes) (h .size)) && leb (h .base + 14) (h .meta)) (leb (h .meta) n) (b .1) in
     let t = both (eqb (h .base) (dataStart (h .nodes) (h .size))) (leb (h .base + 14) (h .meta)) (s .0) in
-    let i = ipv4 (h .version) (h .start4) (h .depth4) (a .1) in
+    let i = both (leb (h .depth4) 96 && leb (h .start4) (2 ^ 32 - 1)) (not (eqb (h .version) 4) || (eqb (h .start4) 0 && eqb (h .depth4) 0)) (a .1) in
+    let j = both (leb (h .depth4) 96) (leb (h .start4) (2 ^ 32 - 1)) (i .0) in
     record {
       short = leb-true _ _ (c .0);
       versioned = ⊎-elim (λ p. inl (eqb-true _ _ p)) (λ p. inr (eqb-true _ _ p)) (either (eqb (h .version) 4) (eqb (h .version) 6) (k .0));
@@ -90,21 +80,21 @@ fit h n e =
       based = eqb-true _ _ (t .0);
       marked = leb-true _ _ (t .1);
       whole = leb-true _ _ (s .1);
-      shallow = i .0;
-      narrow = i .1;
-      only4 = i .2;
+      shallow = leb-true _ _ (j .0);
+      narrow = leb-true _ _ (j .1);
+      only4 = only-4 (h .version) (h .start4) (h .depth4) (i .1);
     }
 
 version-known : {v : ℕ} → (v ≡ 4) ⊎ (v ≡ 6) → versionKnown v ≡ true
 version-known (inl e) = rw e
 version-known (inr e) = rw e
 
-ipv4-fits : (v start depth : ℕ) → Ipv4 v start depth → cond (eqb v 4) (eqb start 0 && eqb depth 0) (leb depth 96 && leb start (2 ^ 32 - 1)) ≡ true
-ipv4-fits v start depth i = pick (eqb v 4) refl
+only-4-fits : (v start depth : ℕ) → (v ≡ 4 → (start ≡ 0) × (depth ≡ 0)) → (not (eqb v 4) || (eqb start 0 && eqb depth 0)) ≡ true
+only-4-fits v start depth f = pick (eqb v 4) refl
   where
-    pick : (t : Bool) → eqb v 4 ≡ t → cond t (eqb start 0 && eqb depth 0) (leb depth 96 && leb start (2 ^ 32 - 1)) ≡ true
-    pick true t = let z = i .2 (eqb-true v 4 t) in simp (eq-eqb start 0 (z .0), eq-eqb depth 0 (z .1))
-    pick false t = simp (le-leb depth 96 (i .0), le-leb start (2 ^ 32 - 1) (i .1))
+    pick : (t : Bool) → eqb v 4 ≡ t → (not t || (eqb start 0 && eqb depth 0)) ≡ true
+    pick true e = let z = f (eqb-true v 4 e) in simp (eq-eqb start 0 (z .0), eq-eqb depth 0 (z .1))
+    pick false e = refl
 
 pub fits-of : (h : Handle) (n : ℕ) → Fit h n → fitsOf h n ≡ true
 unfolding fitsOf
@@ -118,7 +108,9 @@ fits-of h n f =
       eq-eqb (h .base) (dataStart (h .nodes) (h .size)) (f .based),
       le-leb (h .base + 14) (h .meta) (f .marked),
       le-leb (h .meta) n (f .whole),
-      ipv4-fits (h .version) (h .start4) (h .depth4) (f .shallow, f .narrow, f .only4),
+      le-leb (h .depth4) 96 (f .shallow),
+      le-leb (h .start4) (2 ^ 32 - 1) (f .narrow),
+      only-4-fits (h .version) (h .start4) (h .depth4) (f .only4),
     )
 
 pub size-le : {size : ℕ} → Sized size → size ≤ 32
@@ -138,3 +130,6 @@ start-exact nodes size (inr (inr e)) = rw e (omega arith)
 -- a node is size / 4 whole bytes, and the tree's stand before the data
 pub tree-inside : {h : Handle} {n : ℕ} → Fit h n → h .nodes * (h .size / 4) + 16 ≡ h .base
 tree-inside {h} f = omega (arith, f .based, start-exact (h .nodes) (h .size) (f .sizes))
+
+pub tree-whole : {h : Handle} {n : ℕ} → Fit h n → h .nodes * (h .size / 4) ≤ n
+tree-whole f = omega (arith, tree-inside f, f .marked, f .whole)

@@ -1,6 +1,6 @@
 -- When a handle, the numbers of an opened image, fits an image of n bytes.
 use Prim.Native.Nat.{ℕ, _+_, _-_, _*_, _/_, _^_}
-use mathlib.Core.Bool.{Bool, cond, _&&_, _||_}
+use mathlib.Core.Bool.{Bool, not, _&&_, _||_}
 use lib.Dec.{eqb, leb}
 use Rattle.handle.specs.declared.Handle.{Handle}
 
@@ -24,13 +24,16 @@ numbersKnown h = versionKnown (h .version) && leb 1 (h .nodes) && leb (h .nodes)
 abbrev pub dataStart : ℕ → ℕ → ℕ
 dataStart nodes size = nodes * size / 4 + 16
 
--- the data start is right and at most the marker's start, 14 bytes before the metadata; the metadata start is at most the image length
+-- the data start is as computed and at most the marker's start, which is 14 bytes before the metadata's;
+-- the metadata start is at most the image length
 abbrev pub sectionsFit : Handle → ℕ → Bool
 sectionsFit h n = eqb (h .base) (dataStart (h .nodes) (h .size)) && leb (h .base + 14) (h .meta) && leb (h .meta) n
 
 -- IPv4 depth is at most 96, IPv4 start any 32-bit value; for IP version 4 both are 0
 abbrev pub ipv4Fits : Handle → Bool
-ipv4Fits h = cond (eqb (h .version) 4) (eqb (h .start4) 0 && eqb (h .depth4) 0) (leb (h .depth4) 96 && leb (h .start4) (2 ^ 32 - 1))
+ipv4Fits h =
+    leb (h .depth4) 96 && leb (h .start4) (2 ^ 32 - 1)
+    && (not (eqb (h .version) 4) || (eqb (h .start4) 0 && eqb (h .depth4) 0))
 
 -- a handle fits an image of n bytes
 unfoldable pub fitsOf : Handle → ℕ → Bool

@@ -7,7 +7,7 @@ ghost use Rattle.handle.specs.Handle.{versionKnown, sizeKnown, numbersKn
 // The longest image that is read.
 pub const IMAGE_BOUND: u64 = 2147483647;
 
-// IP version, node count, record size, data start, metadata start, and the node and depth at which IPv4 addresses start.
+// IP version, node count, record size, data start, metadata start, and where IPv4 addresses start: record and depth.
 pub struct Handle {
     pub version: u64,
     pub nodes: u64,
@@ -46,10 +46,8 @@ fn sections_fit(h: Handle, n: u64) -> bool
 fn ipv4_fits(h: Handle) -> bool
     ensures { λ r. ⌜ r ≡ ipv4Fits h ⌝ }
 {
-    if h.version == 4 {
-        return h.start4 == 0 && h.depth4 == 0;
-    }
-    h.depth4 <= 96 && h.start4 <= 4294967295
+    h.depth4 <= 96
+        && (h.start4 <= 4294967295 && (h.version != 4 || (h.start4 == 0 && h.depth4 == 0)))
 }
 
 // Whether the handle fits an image of n bytes.

@@ -6,46 +6,23 @@ use mathlib.Core.List.{List}
 use native.Mathlib.Nat.{zero-add, add-zero, suc-add, zero-div, div-eq-of-lt, mul-le-mul-right, le-trans, lt-of-lt-of-le}
 use native.Mathlib.Omega.{arith}
 use lib.ListN.{getD}
-use lib.Dec.{leb, ltb}
+use lib.Dec.{ltb}
 use lib.Pow.{pow-mono}
-use borrow.Author.Tests.{le-leb, lt-leb, leb-true, leb-false, lt-ltb, le-ltb, ltb-true, ltb-false}
+use borrow.Author.Tests.{lt-ltb, le-ltb, ltb-true, ltb-false}
 use Rattle.number.specs.Keys.{bitFromTop}
 use Rattle.tree.specs.Record.{recordAt, Readable, Sized}
-use Rattle.tree.specs.Lookup.{Tree, down, ipv4StartOf, answerOf}
+use Rattle.tree.specs.Lookup.{Tree, down, ipv4StartOf}
 use Rattle.tree.specs.declared.Place.{Place}
-use Rattle.tree.specs.declared.Answer.the-variants.{Found, NotFound, Invalid}
 use Rattle.tree.proofs.RecordLaws.{Same, record-lt, record-same}
 
-abbrev at : ℕ → ℕ → Place
-at node depth = record { node = node; depth = depth }
+-- a place of a node and a depth
+abbrev pub place : ℕ → ℕ → Place
+place node depth = record { node = node; depth = depth }
 
 -- a node of the tree can be read
 pub readable : {n size nodes node bit : ℕ} → Tree n size nodes → node < nodes → bit < 2 → Readable n size node bit
 readable {size = size} t h b =
     record { sized = t .sized; inside = le-trans (mul-le-mul-right (size / 4) (omega arith)) (t .inside); one = b }
-
-module _ (s : List ℕ) (size nodes addr width : ℕ) where
-  -- with no bit left the way stops
-  pub down-none : (depth left node : ℕ) → left ≤ 0 → down s size nodes addr width depth left node ≡ at node depth
-  unfolding down
-  down-none depth zero node h = refl
-  down-none depth (suc left) node h = absurd (omega arith)
-
-  -- and at a terminal
-  pub down-end : (depth left node : ℕ) → nodes ≤ node → down s size nodes addr width depth left node ≡ at node depth
-  unfolding down
-  down-end depth zero node h = refl
-  down-end depth (suc left) node h = simp (le-ltb node nodes h)
-
-  -- at a node it goes on by the next bit
-  pub down-step : (depth left node : ℕ) → 0 < left → node < nodes
-      → down s size nodes addr width depth left node
-      ≡ down s size nodes addr width (depth + 1) (left - 1) (recordAt s size node (bitFromTop addr width depth))
-  unfolding down
-  down-step depth zero node p h = absurd (omega arith)
-  down-step depth (suc left) node p h =
-      let e : suc left - 1 ≡ left = omega arith in
-      rw e (simp (lt-ltb node nodes h))
 
 -- what holds of both arms holds of a choice
 by-test : (P : Place → Type 0) (t : Bool) {p q : Place} → (t ≡ true → P p) → (t ≡ false → P q) → P (cond t p q)
@@ -53,8 +30,32 @@ by-test P true f g = f refl
 by-test P false f g = g refl
 
 module _ (s : List ℕ) (size nodes addr width : ℕ) where
-  abbrev next : ℕ → ℕ → ℕ
+  -- the record that the next bit leads to
+  abbrev pub next : ℕ → ℕ → ℕ
   next depth node = recordAt s size node (bitFromTop addr width depth)
+
+  -- with no bit left the way stops
+  pub down-none : (depth left node : ℕ) → left ≤ 0 → down s size nodes addr width depth left node ≡ place node depth
+  unfolding down
+  down-none depth zero node h = refl
+  down-none depth (suc left) node h = absurd (omega arith)
+
+  -- and at a terminal
+  pub down-end : (depth left node : ℕ) → nodes ≤ node → down s size nodes addr width depth left node ≡ place node depth
+  unfolding down
+  down-end depth zero node h = refl
+  down-end depth (suc left) node h = simp (le-ltb node nodes h)
+
+  -- at a node it goes on by the next bit
+  pub down-step :
+      (depth left node : ℕ) → 0 < left → node < nodes
+      → down s size nodes addr width depth left node
+      ≡ down s size nodes addr width (depth + 1) (left - 1) (next depth node)
+  unfolding down
+  down-step depth zero node p h = absurd (omega arith)
+  down-step depth (suc left) node p h =
+      let e : suc left - 1 ≡ left = omega arith in
+      rw e (simp (lt-ltb node nodes h))
 
   -- it reads no more bits than it may
   pub down-le : (depth left node : ℕ) → down s size nodes addr width depth left node .depth ≤ depth + left
@@ -85,7 +86,9 @@ module _ (s : List ℕ) (size nodes addr width : ℕ) where
       (λ t h. absurd (omega (arith, ltb-false node nodes t)))
 
   -- every record on the way has 32 bits
-  pub down-lt : ((i : ℕ) → getD s i 0 < 256) → size ≤ 32 → (depth left node : ℕ) → node < 2 ^ 32 → down s size nodes addr width depth left node .node < 2 ^ 32
+  pub down-lt :
+      ((i : ℕ) → getD s i 0 < 256) → size ≤ 32 → (depth left node : ℕ) → node < 2 ^ 32
+      → down s size nodes addr width depth left node .node < 2 ^ 32
   unfolding down
   down-lt bytes z depth zero node h = h
   down-lt bytes z depth (suc left) node h =
@@ -99,21 +102,26 @@ module _ (s : List ℕ) (size nodes addr width : ℕ) where
   abbrev pub onward : ℕ → ℕ → Place → Place
   onward depth left p = cond (ltb (p .node) nodes) (down s size nodes addr width depth left (p .node)) p
 
-  onward-end : (t : Bool) (depth left : ℕ) {p : Place} (r q : Place) → ltb (q .node) nodes ≡ t → (t ≡ true → p ≡ onward depth left r) → cond t p q ≡ onward depth left (cond t r q)
+  onward-end :
+      (t : Bool) (depth left : ℕ) {p : Place} (r q : Place) → ltb (q .node) nodes ≡ t → (t ≡ true → p ≡ onward depth left r)
+      → cond t p q ≡ onward depth left (cond t r q)
   onward-end true depth left r q e f = f refl
   onward-end false depth left r q e f = rw e
 
   -- a way of a + b bits is one of a bits and, where that stopped at a node, one of b
-  pub down-join : (depth a b node : ℕ) → down s size nodes addr width depth (a + b) node ≡ onward (depth + a) b (down s size nodes addr width depth a node)
+  pub down-join :
+      (depth a b node : ℕ)
+      → down s size nodes addr width depth (a + b) node ≡ onward (depth + a) b (down s size nodes addr width depth a node)
   unfolding down
   down-join depth zero b node = pick (ltb node nodes) refl
     where
-      pick : (t : Bool) → ltb node nodes ≡ t → down s size nodes addr width depth (zero + b) node ≡ onward (depth + zero) b (at node depth)
+      pick : (t : Bool) → ltb node nodes ≡ t → down s size nodes addr width depth (zero + b) node ≡ onward (depth + zero) b (place node depth)
       pick true e = rw (e, zero-add, add-zero)
-      pick false e = rw e (down-end s size nodes addr width depth (zero + b) node (ltb-false node nodes e))
+      pick false e = rw e (down-end depth (zero + b) node (ltb-false node nodes e))
   down-join depth (suc a) b node =
       let e : depth + suc a ≡ depth + 1 + a = omega arith in
-      rw (suc-add, e) (onward-end (ltb node nodes) (depth + 1 + a) b (down s size nodes addr width (depth + 1) a (next depth node)) (at node depth) refl (λ t. down-join (depth + 1) a b (next depth node)))
+      let r = down s size nodes addr width (depth + 1) a (next depth node) in
+      rw (suc-add, e) (onward-end (ltb node nodes) (depth + 1 + a) b r (place node depth) refl (λ t. down-join (depth + 1) a b (next depth node)))
 
 either-same : (t : Bool) {p r : Place} (q : Place) → (t ≡ true → p ≡ r) → cond t p q ≡ cond t r q
 either-same true q f = f refl
@@ -126,7 +134,7 @@ pub down-same :
 unfolding down
 down-same s t size nodes addr width z same depth zero node = refl
 down-same s t size nodes addr width z same depth (suc left) node =
-    either-same (ltb node nodes) (at node depth)
+    either-same (ltb node nodes) (place node depth)
     (λ e.
     let h = ltb-true node nodes e in
     rw (record-same s t same size node (bitFromTop addr width depth) z (mul-le-mul-right (size / 4) (omega arith)))
@@ -134,9 +142,11 @@ down-same s t size nodes addr width z same depth (suc left) node =
 
 -- a place as seen from o levels further up
 abbrev pub deeper : ℕ → Place → Place
-deeper o p = at (p .node) (p .depth + o)
+deeper o p = place (p .node) (p .depth + o)
 
-either-deeper : (t : Bool) (o : ℕ) {p q : Place} (r u : Place) → (t ≡ true → p ≡ deeper o r) → q ≡ deeper o u → cond t p q ≡ deeper o (cond t r u)
+either-deeper :
+    (t : Bool) (o : ℕ) {p q : Place} (r u : Place) → (t ≡ true → p ≡ deeper o r) → q ≡ deeper o u
+    → cond t p q ≡ deeper o (cond t r u)
 either-deeper true o r u f g = f refl
 either-deeper false o r u f g = g
 
@@ -146,7 +156,7 @@ pub down-bits :
     → ((i : ℕ) → i < left → bitFromTop a w (d + i) ≡ bitFromTop a′ w′ (d′ + i))
     → down s size nodes a w d left node ≡ deeper o (down s size nodes a′ w′ d′ left node)
 unfolding down
-down-bits s size nodes a w a′ w′ d d′ o zero node e same = ap (at node) e
+down-bits s size nodes a w a′ w′ d d′ o zero node e same = ap (place node) e
 down-bits s size nodes a w a′ w′ d d′ o (suc left) node e same =
     let b : bitFromTop a w d ≡ bitFromTop a′ w′ d′ = simp add-zero at (same 0 (omega arith)) in
     let n = recordAt s size node (bitFromTop a′ w′ d′) in
@@ -155,9 +165,15 @@ down-bits s size nodes a w a′ w′ d d′ o (suc left) node e same =
     let q : d′ + 1 + i ≡ d′ + (i + 1) = omega arith in
     rw (p, q) (same (i + 1) (omega arith))
     in
-    either-deeper (ltb node nodes) o (down s size nodes a′ w′ (d′ + 1) left n) (at node d′)
+    either-deeper (ltb node nodes) o (down s size nodes a′ w′ (d′ + 1) left n) (place node d′)
     (λ t. rw b (down-bits s size nodes a w a′ w′ (d + 1) (d′ + 1) o left n (omega arith) rest))
-    (ap (at node) e)
+    (ap (place node) e)
+
+-- the IPv4 start of a tree suits a handle
+pub ipv4-start-fits :
+    (s : List ℕ) (size nodes : ℕ) → ((i : ℕ) → getD s i 0 < 256) → size ≤ 32
+    → (ipv4StartOf s size nodes .node < 2 ^ 32) × (ipv4StartOf s size nodes .depth ≤ 96)
+ipv4-start-fits s size nodes bytes z = (down-lt s size nodes 0 128 bytes z 0 96 0 (omega arith), down-le s size nodes 0 128 0 96 0)
 
 -- an IPv4 address in a tree of IPv6 addresses: its way goes on from the IPv4 start and adds that depth
 module _ (s : List ℕ) (size nodes addr : ℕ) (small : addr < 2 ^ 32) where
@@ -172,14 +188,18 @@ module _ (s : List ℕ) (size nodes addr : ℕ) (small : addr < 2 ^ 32) where
   start : down s size nodes addr 128 0 96 0 ≡ ipv4StartOf s size nodes
   start =
       let p = ipv4StartOf s size nodes in
-      down-bits s size nodes addr 128 0 128 0 0 0 96 0 refl top-bits ∙ ap (at (p .node)) (add-zero (p .depth))
+      down-bits s size nodes addr 128 0 128 0 0 0 96 0 refl top-bits ∙ ap (place (p .node)) (add-zero (p .depth))
 
-  beyond-start : (p : Place) → (p .node < nodes → p .depth ≡ 96) → onward s size nodes addr 128 96 32 p ≡ deeper (p .depth) (down s size nodes addr 32 0 32 (p .node))
+  beyond-start :
+      (p : Place) → (p .node < nodes → p .depth ≡ 96)
+      → onward s size nodes addr 128 96 32 p ≡ deeper (p .depth) (down s size nodes addr 32 0 32 (p .node))
   beyond-start p full = pick (ltb (p .node) nodes) refl
     where
-      pick : (t : Bool) → ltb (p .node) nodes ≡ t → cond t (down s size nodes addr 128 96 32 (p .node)) p ≡ deeper (p .depth) (down s size nodes addr 32 0 32 (p .node))
+      pick :
+          (t : Bool) → ltb (p .node) nodes ≡ t
+          → cond t (down s size nodes addr 128 96 32 (p .node)) p ≡ deeper (p .depth) (down s size nodes addr 32 0 32 (p .node))
       pick true e = rw (full (ltb-true (p .node) nodes e)) (down-bits s size nodes addr 128 addr 32 96 0 96 32 (p .node) refl low-bits)
-      pick false e = rw (down-end s size nodes addr 32 0 32 (p .node) (ltb-false (p .node) nodes e)) (ap (at (p .node)) (sym (zero-add (p .depth))))
+      pick false e = rw (down-end s size nodes addr 32 0 32 (p .node) (ltb-false (p .node) nodes e)) (ap (place (p .node)) (sym (zero-add (p .depth))))
 
   pub ipv4-way :
       down s size nodes addr 128 0 128 0
@@ -188,67 +208,3 @@ module _ (s : List ℕ) (size nodes addr : ℕ) (small : addr < 2 ^ 32) where
       down-join s size nodes addr 128 0 96 32 0
       ∙ ap (onward s size nodes addr 128 96 32) start
       ∙ beyond-start (ipv4StartOf s size nodes) (down-internal s size nodes 0 128 0 96 0)
-
--- what a way ends in: no data, an offset inside the data section, or refusal 11
-module _ (nodes room len : ℕ) where
-  pub answer-none : (node : ℕ) → node ≤ nodes → answerOf nodes room node len ≡ NotFound len
-  unfolding answerOf
-  answer-none node h = simp (le-leb node nodes h)
-
-  pub answer-at : (offset : ℕ) → offset < room → answerOf nodes room (nodes + 16 + offset) len ≡ Found offset len
-  unfolding answerOf
-  answer-at offset h =
-      let e : nodes + 16 + offset - nodes - 16 ≡ offset = omega arith in
-      simp (
-        lt-leb (nodes + 16 + offset) nodes (omega arith),
-        le-ltb (nodes + 16 + offset) (nodes + 16) (omega arith),
-        e,
-        lt-ltb offset room h,
-      )
-
-  pub answer-near : (node : ℕ) → nodes < node → node < nodes + 16 → answerOf nodes room node len ≡ Invalid
-  unfolding answerOf
-  answer-near node g h = simp (lt-leb node nodes g, lt-ltb node (nodes + 16) h)
-
-  pub answer-far : (node : ℕ) → nodes + 16 + room ≤ node → answerOf nodes room node len ≡ Invalid
-  unfolding answerOf
-  answer-far node h =
-      simp (
-        lt-leb node nodes (omega arith),
-        le-ltb node (nodes + 16) (omega arith),
-        le-ltb (node - nodes - 16) room (omega arith),
-      )
-
-  -- so what is found lies in the data section
-  pub answer-found : (node offset l : ℕ) → answerOf nodes room node len ≡ Found offset l → (offset < room) × (node ≡ nodes + 16 + offset) × (l ≡ len)
-  answer-found node offset l e = first (leb node nodes) refl
-    where
-      Goal : Type 0
-      Goal = (offset < room) × (node ≡ nodes + 16 + offset) × (l ≡ len)
-
-      third : nodes + 16 ≤ node → (t : Bool) → ltb (node - nodes - 16) room ≡ t → Goal
-      third g true p =
-          let h : node - nodes - 16 < room = ltb-true (node - nodes - 16) room p in
-          let q : nodes + 16 + (node - nodes - 16) ≡ node = omega arith in
-          let f : answerOf nodes room node len ≡ Found (node - nodes - 16) len = rw q at (answer-at (node - nodes - 16) h) in
-          let o : offset ≡ node - nodes - 16 = cc in
-          let m : l ≡ len = cc in
-          (omega arith, omega arith, m)
-      third g false p =
-          let f = answer-far node (omega (arith, ltb-false (node - nodes - 16) room p)) in
-          let z : _≡_ {A = ℕ} 0 1 = cc in
-          absurd (omega arith)
-
-      second : nodes < node → (t : Bool) → ltb node (nodes + 16) ≡ t → Goal
-      second g true p =
-          let f = answer-near node g (ltb-true node (nodes + 16) p) in
-          let z : _≡_ {A = ℕ} 0 1 = cc in
-          absurd (omega arith)
-      second g false p = third (ltb-false node (nodes + 16) p) (ltb (node - nodes - 16) room) refl
-
-      first : (t : Bool) → leb node nodes ≡ t → Goal
-      first true p =
-          let f = answer-none node (leb-true node nodes p) in
-          let z : _≡_ {A = ℕ} 0 1 = cc in
-          absurd (omega arith)
-      first false p = second (leb-false node nodes p) (ltb node (nodes + 16)) refl

@@ -59,7 +59,9 @@ Last : List ℕ → ℕ → Marked → Type 0
 Last s k (At i) = (i < k) × (agree s i 14 ≡ true) × ((j : ℕ) → i < j → j < k → agree s j 14 ≡ false)
 Last s k Nowhere = (j : ℕ) → j < k → agree s j 14 ≡ false
 
-misses-more : (s : List ℕ) (i k : ℕ) → agree s k 14 ≡ false → ((j : ℕ) → i ≤ j → j < k → agree s j 14 ≡ false) → (j : ℕ) → i ≤ j → j < suc k → agree s j 14 ≡ false
+misses-more :
+    (s : List ℕ) (i k : ℕ) → agree s k 14 ≡ false → ((j : ℕ) → i ≤ j → j < k → agree s j 14 ≡ false)
+    → (j : ℕ) → i ≤ j → j < suc k → agree s j 14 ≡ false
 misses-more s i k e f j g h = ⊎-elim (f j g) (λ q. rw q e) (below-or-at j k h (ltb j k) refl)
 
 last-step : (s : List ℕ) (k : ℕ) (t : Bool) (m : Marked) → agree s k 14 ≡ t → Last s k m → Last s (suc k) (cond t (At k) m)

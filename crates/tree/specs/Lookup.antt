@@ -14,7 +14,8 @@ pub record Tree (n size nodes : ℕ) : Type 0 where
   pub sized : Sized size
   pub inside : nodes * (size / 4) ≤ n
 
--- where the way down from a node at a depth stops that reads at most `left` more bits of an address, one bit a level, highest first: a record below the node count is a node and leads on, any other is a terminal
+-- where the way down from a node at a depth stops that may read `left` more bits of an address, one a level, highest
+-- first: a record below the node count is a node and leads on, any other is a terminal
 unfoldable pub down : List ℕ → ℕ → ℕ → ℕ → ℕ → ℕ → ℕ → ℕ → Place
 down s size nodes addr width depth zero node = record { node = node; depth = depth }
 down s size nodes addr width depth (suc left) node =
@@ -30,7 +31,8 @@ ipv4StartOf s size nodes = down s size nodes 0 128 0 96 0
 abbrev pub offsetOf : ℕ → ℕ → ℕ
 offsetOf nodes node = node - nodes - 16
 
--- what a way ends in at a record, `len` being the length there and `room` that of the data section: a record up to the node count has no data (a node does at full width, the node count itself anywhere); one above it is an offset inside the data section, or refusal 11
+-- what a way ends in at a record, `len` being the length there and `room` that of the data section: no data at the node
+-- count, and at a node met at full width; above the node count an offset inside the data section, or refusal 11
 unfoldable pub answerOf : ℕ → ℕ → ℕ → ℕ → Answer
 answerOf nodes room node len =
     cond (leb node nodes) (NotFound len)

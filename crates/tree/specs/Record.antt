@@ -12,11 +12,13 @@ use Rattle.number.specs.Bytes.{beAt}
 abbrev pub Sized : ℕ → Type 0
 Sized size = (size ≡ 24) ⊎ ((size ≡ 28) ⊎ (size ≡ 32))
 
--- the bits that a record has beyond whole bytes, four at size 28 and none else: the left one's (bit 0) are the highest of the byte past its whole bytes, the right one's the lowest
+-- the bits that a record has beyond whole bytes, four at size 28 and none else: the left one's (bit 0) are the highest of
+-- the byte past its whole bytes, the right one's the lowest
 abbrev pub beyond : ℕ → ℕ → ℕ → ℕ
 beyond size byte bit = cond (eqb bit 0) (byte / 2 ^ (8 - size % 8)) (byte % 2 ^ (size % 8))
 
--- the record of `size` bits of a node, the left one for bit 0, the right one else. A node is size / 4 bytes: the left record's whole bytes are its first size / 8, the right one's its last, and the bits beyond them stand above them
+-- the record of `size` bits of a node, the left one for bit 0, the right one else. A node is size / 4 bytes: the left
+-- record's whole bytes are its first size / 8, the right one's its last, and the bits beyond stand above them
 unfoldable pub recordAt : List ℕ → ℕ → ℕ → ℕ → ℕ
 recordAt s size node bit =
     beyond size (getD s (node * (size / 4) + size / 8) 0) bit * 256 ^ (size / 8)

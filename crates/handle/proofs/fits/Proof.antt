@@ -16,11 +16,23 @@ ipv4-fits-requires c κs = search needs
 
 returns : tie.Need-returns
 unfolding fitsOf
-returns c = simp (le-leb _ _ (c .before .before .before .before .before .if1 .taken), sym (c .before .before .before .before .numbers-known .ensures) ∙ c .before .before .before .if2 .taken, sym (c .before .before .sections-fit .ensures) ∙ c .before .if3 .taken) (c .ipv4-fits .ensures)
+returns c =
+    simp (
+      le-leb _ _ (c .before .before .before .before .before .if1 .taken),
+      sym (c .before .before .before .before .numbers-known .ensures) ∙ c .before .before .before .if2 .taken,
+      sym (c .before .before .sections-fit .ensures) ∙ c .before .if3 .taken,
+    )
+    (c .ipv4-fits .ensures)
 
 returns-2 : tie.Need-returns-2
 unfolding fitsOf
-returns-2 c = simp (le-leb _ _ (c .before .before .before .before .if1 .taken), sym (c .before .before .before .numbers-known .ensures) ∙ c .before .before .if2 .taken, sym (c .before .sections-fit .ensures) ∙ c .if3 .left) (c .if3 .left)
+returns-2 c =
+    simp (
+      le-leb _ _ (c .before .before .before .before .if1 .taken),
+      sym (c .before .before .before .numbers-known .ensures) ∙ c .before .before .if2 .taken,
+      sym (c .before .sections-fit .ensures) ∙ c .if3 .left,
+    )
+    (c .if3 .left)
 
 returns-3 : tie.Need-returns-3
 unfolding fitsOf

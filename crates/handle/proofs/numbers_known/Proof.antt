@@ -11,10 +11,21 @@ size-known-requires : tie.Need-size-known-requires
 size-known-requires c κs = search needs
 
 returns : tie.Need-returns
-returns c = simp (sym (c .before .before .before .before .before .before .version-known .ensures) ∙ c .before .before .before .before .before .if1 .taken, le-leb _ _ (c .before .before .before .if2 .taken), le-leb _ _ (c .before .if3 .taken)) (c .size-known .ensures)
+returns c =
+    simp (
+      sym (c .before .before .before .before .before .before .version-known .ensures) ∙ c .before .before .before .before .before .if1 .taken,
+      le-leb _ _ (c .before .before .before .if2 .taken),
+      le-leb _ _ (c .before .if3 .taken),
+    )
+    (c .size-known .ensures)
 
 returns-2 : tie.Need-returns-2
-returns-2 c = simp (sym (c .before .before .before .before .before .version-known .ensures) ∙ c .before .before .before .before .if1 .taken, le-leb _ _ (c .before .before .if2 .taken), lt-leb _ _ (c .if3 .left))
+returns-2 c =
+    simp (
+      sym (c .before .before .before .before .before .version-known .ensures) ∙ c .before .before .before .before .if1 .taken,
+      le-leb _ _ (c .before .before .if2 .taken),
+      lt-leb _ _ (c .if3 .left),
+    )
 
 returns-3 : tie.Need-returns-3
 returns-3 c = simp (sym (c .before .before .before .version-known .ensures) ∙ c .before .before .if1 .taken, lt-leb _ _ (c .if2 .left))

@@ -19,11 +19,15 @@ returns-2 c = let a = c .before .before .args in simp (lt-leb _ _ (c .before .if
 
 returns-3 : tie.Need-returns-3
 unfolding answerOf
-returns-3 c = let a = c .before .before .before .args in simp (lt-leb _ _ (c .before .before .if1 .left), le-ltb (a .node) (a .nodes + 16) (omega arith), lt-ltb _ _ (c .if3 .taken))
+returns-3 c =
+    let a = c .before .before .before .args in
+    simp (lt-leb _ _ (c .before .before .if1 .left), le-ltb (a .node) (a .nodes + 16) (omega arith), lt-ltb _ _ (c .if3 .taken))
 
 returns-4 : tie.Need-returns-4
 unfolding answerOf
-returns-4 c = let a = c .before .before .before .args in simp (lt-leb _ _ (c .before .before .if1 .left), le-ltb (a .node) (a .nodes + 16) (omega arith), le-ltb _ _ (c .if3 .left))
+returns-4 c =
+    let a = c .before .before .before .args in
+    simp (lt-leb _ _ (c .before .before .if1 .left), le-ltb (a .node) (a .nodes + 16) (omega arith), le-ltb _ _ (c .if3 .left))
 
 pub answer-spec : {M : Type 1} → statement M
 answer-spec = tie.close (tie.spec returns sub-over returns-2 returns-3 returns-4)

@@ -18,10 +18,7 @@ loop-holds : tie.Need-loop-holds Inv-loop μ-loop
 loop-holds c = let e : c .before .args .bits - 0 ≡ c .before .args .bits = omega arith in (omega arith, rw e)
 
 returns : tie.Need-returns Inv-loop μ-loop
-returns c =
-    let a = c .before .before .before .before .args in
-    let l = c .before .before .loop in
-    sym (down-end (a .s .now) (a .size) (a .nodes) (numberOf (a .key)) (a .width) (l .depth) (a .bits - l .depth) (l .node) (c .if1 .taken)) ∙ l .inv .1
+returns c = sym (down-end _ _ _ _ _ _ _ _ (c .if1 .taken)) ∙ c .before .before .loop .inv .1
 
 get-bit-requires : tie.Need-get-bit-requires Inv-loop μ-loop
 get-bit-requires c κs = omega arith
@@ -42,14 +39,11 @@ loop-again c =
     let e : a .bits - (l .depth + 1) ≡ a .bits - l .depth - 1 = omega arith in (
       omega arith,
       rw (c .read-node .ensures, c .before .get-bit .ensures, e)
-          (sym (down-step (a .s .now) (a .size) (a .nodes) (numberOf (a .key)) (a .width) (l .depth) (a .bits - l .depth) (l .node) (omega arith) (c .before .before .if1 .left)) ∙ l .inv .1),
+          (sym (down-step _ _ _ _ _ _ _ _ (omega arith) (c .before .before .if1 .left)) ∙ l .inv .1),
     )
 
 returns-2 : tie.Need-returns-2 Inv-loop μ-loop
-returns-2 c =
-    let a = c .before .before .before .args in
-    let l = c .before .loop in
-    sym (down-none (a .s .now) (a .size) (a .nodes) (numberOf (a .key)) (a .width) (l .depth) (a .bits - l .depth) (l .node) (omega arith)) ∙ l .inv .1
+returns-2 c = sym (down-none _ _ _ _ _ _ _ _ (omega arith)) ∙ c .before .loop .inv .1
 
 pub descend-spec : {M : Type 1} → statement M
 descend-spec =

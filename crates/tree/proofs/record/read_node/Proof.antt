@@ -2,9 +2,13 @@ use borrow.Author.Needs.{needs}
 use Rattle.tree.proofs.record.read_node.Statement.{statement}
 use Rattle.tree.proofs.record.read_node.Tie as tie
 use native.Mathlib.Omega.{arith}
-use mathlib.Core.Path.{refl}
+use mathlib.Core.Path.{_≡_, refl}
 use mathlib.Core.Logic.{inl, inr}
 use Rattle.tree.proofs.RecordLaws.{from-window, in24, in28, in32, only32, moved-fits, joined-fits}
+
+-- 32 is the size that is left
+size32 : (c : tie.Else2) → c .before .before .before .args .size ≡ 32
+size32 c = only32 (c .before .before .before .pre .sized) (c .before .if1 .left) (c .if2 .left)
 
 window-requires : tie.Need-window-requires
 window-requires c κs = let p = c .before .before .pre in (omega arith, rw (c .if1 .taken) at (p .inside), p .one)
@@ -20,10 +24,12 @@ shr-result c = search needs
 
 returns : tie.Need-returns
 returns c =
-    let a = c .before .before .before .args in
+    let f = c .before .before .before in
+    let a = f .args in
     let w = c .window in
+    let b = in24 (w .result) (a .bit) (w .ensures .1) (f .pre .one) in
     rw (c .before .if1 .taken)
-    (from-window (a .s .now) (λ i. c .before .before .shared-slice-known .given i .fits) 24 (a .node) (a .bit) (inl refl) (c .before .before .before .pre .one) (w .ensures .0) (in24 (w .result) (a .bit) (w .ensures .1) (c .before .before .before .pre .one)))
+    (from-window (a .s .now) (λ i. c .before .before .shared-slice-known .given i .fits) 24 (a .node) (a .bit) (inl refl) (f .pre .one) (w .ensures .0) b)
 
 window-requires-2 : tie.Need-window-requires-2
 window-requires-2 c κs = let p = c .before .before .before .pre in (omega arith, rw (c .if2 .taken) at (p .inside), p .one)
@@ -51,20 +57,24 @@ add-result c = record { fits = joined-fits _ _ _ _ (c .window2 .ensures .1) (ome
 
 returns-2 : tie.Need-returns-2
 returns-2 c =
-    let a = c .before .before .before .before .args in
+    let f = c .before .before .before .before in
+    let a = f .args in
     let w = c .window2 in
+    let b = in28 (w .result) (a .bit) (w .ensures .1) (f .pre .one) in
     rw (c .before .if2 .taken)
-    (from-window (a .s .now) (λ i. c .before .before .before .shared-slice-known .given i .fits) 28 (a .node) (a .bit) (inr (inl refl)) (c .before .before .before .before .pre .one) (w .ensures .0) (in28 (w .result) (a .bit) (w .ensures .1) (c .before .before .before .before .pre .one)))
+    (from-window (a .s .now) (λ i. c .before .before .before .shared-slice-known .given i .fits) 28 (a .node) (a .bit) (inr (inl refl)) (f .pre .one) (w .ensures .0) b)
 
 window-requires-3 : tie.Need-window-requires-3
-window-requires-3 c κs = let p = c .before .before .before .pre in (omega arith, rw (only32 (p .sized) (c .before .if1 .left) (c .if2 .left)) at (p .inside), p .one)
+window-requires-3 c κs = let p = c .before .before .before .pre in (omega arith, rw (size32 c) at (p .inside), p .one)
 
 returns-3 : tie.Need-returns-3
 returns-3 c =
-    let a = c .before .before .before .before .args in
+    let f = c .before .before .before .before in
+    let a = f .args in
     let w = c .window3 in
-    rw (only32 (c .before .before .before .before .pre .sized) (c .before .before .if1 .left) (c .before .if2 .left))
-    (from-window (a .s .now) (λ i. c .before .before .before .shared-slice-known .given i .fits) 32 (a .node) (a .bit) (inr (inr refl)) (c .before .before .before .before .pre .one) (w .ensures .0) (in32 (w .result) (a .bit) (w .ensures .1) (c .before .before .before .before .pre .one)))
+    let b = in32 (w .result) (a .bit) (w .ensures .1) (f .pre .one) in
+    rw (size32 (c .before))
+    (from-window (a .s .now) (λ i. c .before .before .before .shared-slice-known .given i .fits) 32 (a .node) (a .bit) (inr (inr refl)) (f .pre .one) (w .ensures .0) b)
 
 pub read-node-spec : {M : Type 1} → statement M
 read-node-spec =

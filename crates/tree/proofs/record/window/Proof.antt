@@ -11,13 +11,13 @@ sub-word : tie.Need-sub-word
 sub-word c = search needs
 
 mul-word-2 : tie.Need-mul-word-2
-mul-word-2 c = let p = c .before .pre in omega (arith, window-inside (c .before .args .node) (c .before .args .bytes) (c .before .args .bit) (p .0) (p .1) (p .2))
+mul-word-2 c = let a = c .before .args in let p = c .before .pre in omega (arith, window-inside (a .node) (a .bytes) (a .bit) (p .0) (p .1) (p .2))
 
 add-word : tie.Need-add-word
-add-word c = let p = c .before .pre in omega (arith, window-inside (c .before .args .node) (c .before .args .bytes) (c .before .args .bit) (p .0) (p .1) (p .2))
+add-word c = let a = c .before .args in let p = c .before .pre in omega (arith, window-inside (a .node) (a .bytes) (a .bit) (p .0) (p .1) (p .2))
 
 word-requires : tie.Need-word-requires
-word-requires c κs = let p = c .before .pre in window-inside (c .before .args .node) (c .before .args .bytes) (c .before .args .bit) (p .0) (p .1) (p .2)
+word-requires c κs = let a = c .before .args in let p = c .before .pre in window-inside (a .node) (a .bytes) (a .bit) (p .0) (p .1) (p .2)
 
 returns : tie.Need-returns
 returns c = search needs

@@ -56,7 +56,9 @@ add-result-3 : tie.Need-add-result-3
 add-result-3 c = search needs
 
 returns : tie.Need-returns
-returns c = (omega (arith, word-bytes (c .before .before .before .before .before .before .before .before .before .args .s .now) (c .before .before .before .before .before .before .before .before .before .args .o)), omega arith)
+returns c =
+    let a = c .before .before .before .before .before .before .before .before .before .args in
+    (omega (arith, word-bytes (a .s .now) (a .o)), omega arith)
 
 pub word-spec : {M : Type 1} → statement M
 word-spec =
