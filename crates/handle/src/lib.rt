@@ -1,7 +1,7 @@
-// The numbers of an opened image, and when they fit an image.
+// The numbers of an opened image, and when they fit an image. Chains of tests nest to the right, so that each way out of
+// one is a return of its own and its proof a line.
 ghost use mathlib.Core.Path.{_≡_};
 ghost use mathlib.Core.Bool.{true};
-ghost use Prim.Native.Nat.{_≤_};
 ghost use Rattle.handle.specs.Handle.{versionKnown, sizeKnown, numbersKnown, sectionsFit, ipv4Fits, fitsOf};
 
 // The longest image that is read.

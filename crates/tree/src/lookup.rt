@@ -1,6 +1,6 @@
 // The way down the tree, and what it ends in.
 ghost use mathlib.Core.Path.{_≡_};
-ghost use Prim.Native.Nat.{_+_, _*_, _^_, _≤_};
+ghost use Prim.Native.Nat.{_≤_};
 ghost use lib.ListN.{length};
 ghost use Rattle.number.specs.Keys.{numberOf};
 ghost use Rattle.tree.specs.Lookup.{Tree, down, ipv4StartOf, answerOf};
@@ -10,7 +10,8 @@ use crate::record::read_node;
 use number::Key;
 use number::get_bit;
 
-// Goes down from `start` by the first `bits` bits of an address.
+// Goes down from `start` by the first `bits` bits of an address: all of them in a lookup, fewer to a range or the IPv4
+// start.
 pub fn descend(
     s: &[u8],
     size: u64,

@@ -22,7 +22,8 @@ fn window(s: &[u8], node: u64, bytes: u64, bit: u64) -> u64
     word(s, (node * bytes + bit * (bytes - 4)) as usize)
 }
 
-// A record of a node. Shifts by a variable keep the window one load.
+// A record of a node. Shifts by a variable keep the window one load; at size 28 the mask takes the left record's nibble
+// above its bytes, and nothing for the right one, whose nibble stands there already.
 pub fn read_node(s: &[u8], size: u64, node: u64, bit: u64) -> u64
     requires { ⌜ Readable (length (now s)) size node bit ⌝ }
     ensures { λ r. ⌜ r ≡ recordAt (now (s .entry)) size node bit ⌝ }
