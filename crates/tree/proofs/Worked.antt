@@ -4,39 +4,16 @@ use mathlib.Core.Path.{_≡_, refl}
 use mathlib.Core.List.{List, [], _∷_, _++_}
 use Rattle.number.specs.Bytes.{beAt}
 use Rattle.tree.specs.Record.{recordAt}
-use Rattle.tree.specs.Lookup.{down, ipv4StartOf, offsetOf, answerOf}
+use Rattle.tree.specs.Lookup.{down, ipv4StartOf, answerOf}
 use Rattle.tree.specs.Marker.{marker, agree, lastBelow, markerOf}
 use Rattle.tree.specs.declared.Answer.{Answer}
 use Rattle.tree.specs.declared.Answer.the-variants.{Found, NotFound, Invalid}
 use Rattle.tree.specs.declared.Marked.the-variants.{At, Nowhere}
 
--- a node's two records
-abbrev Node : List ℕ → ℕ → ℕ → ℕ → Type 0
-Node s size left right = (recordAt s size 0 0 ≡ left) × (recordAt s size 0 1 ≡ right)
-
--- 1: 01 02 03 04 05 06
-pub size24 : Node (1 ∷ 2 ∷ 3 ∷ 4 ∷ 5 ∷ 6 ∷ []) 24 66051 263430
-unfolding recordAt beAt
-size24 = (refl, refl)
-
--- 2: 12 34 56 7A BC DE F0 gives 07123456 and 0ABCDEF0
-pub size28 : Node (18 ∷ 52 ∷ 86 ∷ 122 ∷ 188 ∷ 222 ∷ 240 ∷ []) 28 118633558 180150000
-unfolding recordAt beAt
-size28 = (refl, refl)
-
--- 3: 00 00 00 11 80 00 00 00
-pub size32 : Node (0 ∷ 0 ∷ 0 ∷ 17 ∷ 128 ∷ 0 ∷ 0 ∷ 0 ∷ []) 32 17 2147483648
-unfolding recordAt beAt
-size32 = (refl, refl)
-
 -- the second node of two
 pub second : (recordAt (0 ∷ 0 ∷ 0 ∷ 0 ∷ 0 ∷ 0 ∷ 0 ∷ 18 ∷ 52 ∷ 86 ∷ 122 ∷ 188 ∷ 222 ∷ 240 ∷ []) 28 1 0 ≡ 118633558)
 unfolding recordAt beAt
 second = refl
-
--- the specification's: record 6,000 in a tree of 1,000 nodes
-pub offset : offsetOf 1000 6000 ≡ 4984
-offset = refl
 
 -- a tree of one node of 24-bit records, before a data section of one byte
 abbrev tree : ℕ → ℕ → List ℕ

@@ -37,7 +37,7 @@ be-requires : tie.Need-be-requires
 be-requires c κs =
     let a = c .before .before .before .args in
     let h : a .payload + 8 ≤ length (now (a .s)) = lies-exactly 8 (c .before .before .before .pre) (ap (λ (k : Kind). bodyOf k (a .size)) (c .enum-told3 .given .1)) in
-    (omega arith, h)
+    (omega arith, omega arith)
 
 double-requires : tie.Need-double-requires
 double-requires c κs = search needs
@@ -136,7 +136,7 @@ be-requires-6 : tie.Need-be-requires-6
 be-requires-6 c κs =
     let a = c .before .before .before .args in
     let h : a .payload + 4 ≤ length (now (a .s)) = lies-exactly 4 (c .before .before .before .pre) (ap (λ (k : Kind). bodyOf k (a .size)) (c .enum-told13 .given .1)) in
-    (omega arith, h)
+    (omega arith, omega arith)
 
 cast-float : tie.Need-cast-float
 cast-float c = search needs

@@ -1,0 +1,3 @@
+-- The cases worked by hand, and what is promised.
+pub mod Worked
+pub mod WorkedValues
