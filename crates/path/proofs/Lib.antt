@@ -1,1 +1,2 @@
 pub mod PathLaws
+pub mod DecodePathLaws
