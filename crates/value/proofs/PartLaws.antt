@@ -1,22 +1,24 @@
 -- Laws of parts: what is handed out lies in the section.
-use Prim.Native.Nat.{ℕ, _+_, _*_, _≤_}
+use Prim.Native.Nat.{ℕ, _+_, _*_, _≤_, _<_}
 use mathlib.Core.Path.{_≡_, refl, sym, ap, _∙_}
 use mathlib.Core.List.{List, []}
 use mathlib.Core.Bool.{Bool, true, false, cond}
 use native.Mathlib.Nat.{add-zero}
 use native.Mathlib.Omega.{arith}
-use lib.ListN.{take, drop}
+use lib.ListN.{length, getD, take, drop}
 use Rattle.charge.specs.Charge.{paid, entered}
 use Rattle.charge.specs.declared.Charge.{Charge}
 use Rattle.charge.specs.declared.Charged.{Charged}
 use Rattle.charge.specs.declared.Charged.the-variants.{Within, Over}
 use Rattle.control.specs.declared.Kind.{Kind}
 use Rattle.control.specs.declared.Kind.the-variants as kind
-use Rattle.stored.specs.Stored.{Lies}
-use Rattle.stored.proofs.StoredLaws.{lies-whole}
+use Rattle.stored.specs.Stored.{Lies, resolvedAt}
+use Rattle.stored.specs.declared.Layout.{Layout}
+use Rattle.stored.specs.declared.Layout.the-variants.{At, Bad}
+use Rattle.stored.proofs.StoredLaws.{lies-whole, resolved-laid}
 use Rattle.text.specs.Utf8.{wellFormed}
-use Rattle.value.specs.Value.{ifWithin, valueOf}
-use Rattle.value.specs.Parts.{sizeOf, spanned}
+use Rattle.value.specs.Value.{ifWithin, valueOf, onLayout, readAt}
+use Rattle.value.specs.Parts.{sizeOf, payloadOf, spanned}
 use Rattle.value.specs.declared.Value.{Value}
 use Rattle.value.specs.declared.Value.the-variants.{Map, Array, Text, Bytes, Refused}
 use Rattle.value.specs.declared.Extent.the-variants.{Of, Nothing}
@@ -62,6 +64,17 @@ part-inside s kind.Array m p c b l e = absurd (nothing (through b (entered c m) 
 part-inside s kind.Boolean m p c b l e = absurd (nothing e)
 part-inside s kind.Float m p c b l e = absurd (nothing e)
 part-inside s kind.Unknown m p c b l e = absurd (nothing e)
+
+on-within : (s : List ℕ) → ((i : ℕ) → getD s i 0 < 256) → (at : ℕ) (c : Charge) (b : Bool) {n : ℕ} (x : Layout) → resolvedAt s at ≡ x
+    → sizeOf b (onLayout s c x) ≡ Of n → payloadOf x + n ≤ length s
+on-within s bytes at c b (At k m p e) f g = part-inside s k m p c b (resolved-laid s bytes at f .0 .lies) g
+on-within s bytes at c b Bad f g = absurd (nothing g)
+
+-- what reading finds lies in the section
+pub part-within : (s : List ℕ) → ((i : ℕ) → getD s i 0 < 256) → (at : ℕ) (c : Charge) (b : Bool) {n : ℕ} → sizeOf b (readAt s at c) ≡ Of n
+    → payloadOf (resolvedAt s at) + n ≤ length s
+unfolding readAt
+part-within s bytes at c b g = on-within s bytes at c b (resolvedAt s at) refl g
 
 -- no part: the first 0 bytes, at the section's start
 pub no-part : (s : List ℕ) (x q : ℕ × ℕ) → x ≡ (0, 0) → (_≡_ {A = List ℕ} [] (spanned s x)) × (_≡_ {A = ℕ × ℕ} q (q .0, q .1 + x .0))

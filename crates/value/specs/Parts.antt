@@ -1,7 +1,7 @@
 -- The bytes of a text, or of a value of bytes, as a part of the section.
 use Prim.Native.Nat.{ℕ}
 use mathlib.Core.List.{List}
-use mathlib.Core.Bool.{Bool, cond}
+use mathlib.Core.Bool.{Bool, true, false, cond}
 use lib.ListN.{take, drop}
 use Rattle.charge.specs.declared.Charge.{Charge}
 use Rattle.stored.specs.Stored.{resolvedAt}
@@ -28,6 +28,10 @@ sizeOf bytes (Boolean b) = Nothing
 sizeOf bytes (Double x b) = Nothing
 sizeOf bytes (Float x b) = Nothing
 sizeOf bytes (Refused r) = Nothing
+
+abbrev pub isPart : Extent → Bool
+isPart (Of n) = true
+isPart Nothing = false
 
 -- where the payload begins
 abbrev pub payloadOf : Layout → ℕ

@@ -6,7 +6,7 @@ ghost use denote.Ref.{ptr};
 ghost use Rattle.stored.specs.Stored.{Lies};
 ghost use Rattle.value.specs.Numbers.{signed32, doubleOf, floatOf, wideAt};
 ghost use Rattle.value.specs.Value.{ifWithin, textAt, valueOf, readAt};
-ghost use Rattle.value.specs.Parts.{sizeOf, partAt, spanned};
+ghost use Rattle.value.specs.Parts.{sizeOf, isPart, partAt, spanned};
 ghost use Rattle.value.specs.Empty.{emptyOf, emptyAt};
 use charge::Charge;
 use charge::Charged;
@@ -175,6 +175,16 @@ fn payload_size(v: Value, bytes: bool) -> Extent
         Value::Double(_, _) => Extent::Nothing,
         Value::Float(_, _) => Extent::Nothing,
         Value::Refused(_) => Extent::Nothing,
+    }
+}
+
+// Whether reading finds a text, or a value of bytes.
+pub fn has_part(s: &[u8], at: usize, c: Charge, bytes: bool) -> bool
+    ensures { λ r. ⌜ r ≡ isPart (sizeOf bytes (readAt (now (s .entry)) at c)) ⌝ }
+{
+    match payload_size(read(s, at, c), bytes) {
+        Extent::Of(_) => true,
+        Extent::Nothing => false,
     }
 }
 

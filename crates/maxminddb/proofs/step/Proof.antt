@@ -1,0 +1,46 @@
+use borrow.Author.Needs.{needs}
+use Rattle.maxminddb.proofs.step.Statement.{statement}
+use Rattle.maxminddb.proofs.step.Tie as tie
+use Prim.Native.Nat.{ℕ}
+use mathlib.Core.Path.{sym, ap, _∙_}
+use mathlib.Core.List.{List}
+use lib.ListN.{length}
+use denote.Ref.{now}
+use Rattle.section.proofs.SectionLaws.{free}
+use Rattle.path.specs.Steps.{indexStep}
+use Rattle.maxminddb.specs.Entries.{indexOf}
+
+gate-requires : tie.Need-gate-requires
+gate-requires c κs = search needs
+
+enum-told : tie.Need-enum-told
+enum-told c = search needs
+
+data-section-requires : tie.Need-data-section-requires
+data-section-requires c κs = free (c .before .before .before .before .args .h) (length (now (c .before .before .before .before .args .image))) (c .before .before .before .before .args .c .place) (sym (c .before .before .gate .ensures) ∙ c .enum-told .given .1) .0
+
+step-index-requires : tie.Need-step-index-requires
+step-index-requires c κs = search needs
+
+enum-known-r : tie.Need-enum-known-r
+enum-known-r c = search needs
+
+returns : tie.Need-returns
+unfolding indexOf
+returns c = simp (sym (c .before .before .before .before .gate .ensures) ∙ c .before .before .enum-told .given .1) (c .step-index .ensures ∙ ap (λ (l : List ℕ). indexStep l (c .before .before .before .before .before .before .args .c) (c .before .before .before .before .before .before .args .index) (c .before .before .before .before .before .before .args .backward)) (c .before .data-section .ensures .0))
+
+returns-2 : tie.Need-returns-2
+unfolding indexOf
+returns-2 c = simp (sym (c .before .before .before .gate .ensures) ∙ c .before .r .given .1)
+
+pub step-spec : {M : Type 1} → statement M
+step-spec =
+    tie.close
+    (tie.spec
+    gate-requires
+    enum-told
+    data-section-requires
+    step-index-requires
+    enum-known-r
+    returns
+    returns-2)
