@@ -1,0 +1,4 @@
+-- The definitions that the contracts cite.
+pub mod Names
+pub mod Metadata
+pub mod Entries

@@ -1,0 +1,93 @@
+use borrow.Author.Needs.{needs}
+use Rattle.opening.proofs.open.Statement.{statement}
+use Rattle.opening.proofs.open.Tie as tie
+use Prim.Native.Nat.{_+_, _-_}
+use mathlib.Core.Path.{_≡_, sym, _∙_, ap}
+use native.Mathlib.Omega.{arith}
+use borrow.Author.Tests.{le-leb, lt-leb}
+use denote.Ref.{now}
+use lib.ListN.{length, take, drop}
+use Rattle.metadata.specs.Metadata.{metadataOf}
+use Rattle.opening.specs.Opening.{openOf}
+use Rattle.opening.proofs.TreeLaws.{marker-inside}
+use lib.Seq.{take-all}
+use lib.ListN.{length-drop}
+
+returns : tie.Need-returns
+unfolding openOf
+returns c = simp (lt-leb _ _ (c .if1 .taken))
+
+find-marker-requires : tie.Need-find-marker-requires
+find-marker-requires c κs = search needs
+
+enum-known-marker : tie.Need-enum-known-marker
+enum-known-marker c = search needs
+
+add-section : tie.Need-add-section
+add-section c = omega (arith, marker-inside (now (c .before .before .before .before .before .before .args .image)) (sym (c .before .before .before .find-marker .ensures) ∙ c .before .marker .given .1))
+
+sub-deserialize : tie.Need-sub-deserialize
+sub-deserialize c = omega (arith, marker-inside (now (c .before .before .before .before .before .before .args .image)) (sym (c .before .before .before .find-marker .ensures) ∙ c .before .marker .given .1))
+
+part-deserialize-start : tie.Need-part-deserialize-start
+part-deserialize-start c = marker-inside (now (c .before .before .before .before .before .before .args .image)) (sym (c .before .before .before .find-marker .ensures) ∙ c .before .marker .given .1)
+
+part-deserialize-end : tie.Need-part-deserialize-end
+part-deserialize-end c = search needs
+
+deserialize-requires : tie.Need-deserialize-requires
+deserialize-requires c κs = search needs
+
+enum-known-m : tie.Need-enum-known-m
+enum-known-m c = search needs
+
+validate-requires : tie.Need-validate-requires
+validate-requires c κs = marker-inside (now (c .before .before .before .before .before .before .before .before .before .before .before .args .image)) (sym (c .before .before .before .before .before .before .before .before .find-marker .ensures) ∙ c .before .before .before .before .before .before .marker .given .1)
+
+enum-told : tie.Need-enum-told
+enum-told c = search needs
+
+enum-told-2 : tie.Need-enum-told-2
+enum-told-2 c = search needs
+
+returns-2 : tie.Need-returns-2
+unfolding openOf
+returns-2 c =
+    let s = now (c .before .before .before .before .before .before .before .before .before .before .before .before .args .image) in
+    let k = c .before .before .before .before .before .before .before .marker .given .0 .0 + 14 in
+    let e : take (length s - k) (drop k s) ≡ drop k s = take-all (length s - k) (drop k s) (omega (arith, length-drop k s)) in
+    let d : metadataOf (drop k s) ≡ c .before .before .before .before .deserialize .result = ap metadataOf (sym e) ∙ sym (c .before .before .before .before .deserialize .ensures) in
+    simp (le-leb _ _ (c .before .before .before .before .before .before .before .before .before .before .if1 .left), sym (c .before .before .before .before .before .before .before .before .before .find-marker .ensures) ∙ c .before .before .before .before .before .before .before .marker .given .1, d ∙ c .before .before .m .given .1) (c .validate .ensures)
+
+returns-3 : tie.Need-returns-3
+unfolding openOf
+returns-3 c =
+    let s = now (c .before .before .before .before .before .before .before .before .before .before .args .image) in
+    let k = c .before .before .before .before .before .marker .given .0 .0 + 14 in
+    let e : take (length s - k) (drop k s) ≡ drop k s = take-all (length s - k) (drop k s) (omega (arith, length-drop k s)) in
+    let d : metadataOf (drop k s) ≡ c .before .before .deserialize .result = ap metadataOf (sym e) ∙ sym (c .before .before .deserialize .ensures) in
+    simp (le-leb _ _ (c .before .before .before .before .before .before .before .before .if1 .left), sym (c .before .before .before .before .before .before .before .find-marker .ensures) ∙ c .before .before .before .before .before .marker .given .1, d ∙ c .enum-told .given .1)
+
+returns-4 : tie.Need-returns-4
+unfolding openOf
+returns-4 c = simp (le-leb _ _ (c .before .before .before .if1 .left), sym (c .before .before .find-marker .ensures) ∙ c .enum-told2 .given .1)
+
+pub open-spec : {M : Type 1} → statement M
+open-spec =
+    tie.close
+    (tie.spec
+    returns
+    find-marker-requires
+    enum-known-marker
+    add-section
+    sub-deserialize
+    part-deserialize-start
+    part-deserialize-end
+    deserialize-requires
+    enum-known-m
+    validate-requires
+    enum-told
+    enum-told-2
+    returns-2
+    returns-3
+    returns-4)

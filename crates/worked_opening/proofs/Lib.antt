@@ -1,0 +1,3 @@
+-- Images, byte by byte, and what opening them gives.
+pub mod Images
+pub mod Worked

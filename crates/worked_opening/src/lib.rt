@@ -1,0 +1,2 @@
+// No code: images opened by hand, as theorems of proofs/.
+pub fn nothing() {}
