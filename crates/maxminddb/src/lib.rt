@@ -3,8 +3,12 @@ ghost use mathlib.Core.Path.{_≡_};
 ghost use mathlib.Core.Bool.{true, false};
 ghost use Prim.Native.Nat.{_+_};
 ghost use denote.Ref.{ptr};
+ghost use Rattle.opening.specs.Opening.{openOf, ageOf};
+ghost use Rattle.about.specs.About.{textOf};
+ghost use Rattle.about.specs.declared.Wanted.the-variants as wanted;
 ghost use Rattle.value.specs.Parts.{spanned};
 ghost use Rattle.maxminddb.specs.Entries.{lookupOf, readOf, partOf, keyOf, indexOf};
+use about::Wanted;
 use handle::Handle;
 use handle::fits;
 use lookup::Address;
@@ -12,6 +16,8 @@ use lookup::Asked;
 use lookup::Found;
 use lookup::find;
 use lookup::way_of;
+use opening::Aged;
+use opening::Opened;
 use path::Cursor;
 use path::Step;
 use refusal::HANDLE;
@@ -19,6 +25,49 @@ use section::Barred;
 use section::data_section;
 use section::gate;
 use value::Value;
+
+// The numbers that the other entries take, with the metadata's own; its languages and descriptions are counted there.
+pub fn open(image: &[u8]) -> Opened
+    ensures { λ r. ⌜ r ≡ openOf (now (image .entry)) ⌝ }
+{
+    opening::open(image)
+}
+
+// Seconds from the image's build to a time, both counted from 1970: below zero where the build is later.
+pub fn age(image: &[u8], time: u64) -> Aged
+    ensures { λ r. ⌜ r ≡ ageOf (now (image .entry)) time ⌝ }
+{
+    opening::age(image, time)
+}
+
+// The texts of the metadata, as parts of the image: its first 0 bytes where it does not open or the index is past the last.
+pub fn database_type<'a>(image: &'a [u8]) -> &'a [u8]
+    ensures { λ r. ⌜ now r ≡ spanned (now (image .entry)) (textOf (now (image .entry)) wanted.DatabaseType 0) ⌝ }
+    ensures { λ r. ⌜ ptr r ≡ (ptr (image .entry) .0, ptr (image .entry) .1 + textOf (now (image .entry)) wanted.DatabaseType 0 .0) ⌝ }
+{
+    about::text(image, Wanted::DatabaseType, 0)
+}
+
+pub fn language<'a>(image: &'a [u8], index: usize) -> &'a [u8]
+    ensures { λ r. ⌜ now r ≡ spanned (now (image .entry)) (textOf (now (image .entry)) wanted.Language index) ⌝ }
+    ensures { λ r. ⌜ ptr r ≡ (ptr (image .entry) .0, ptr (image .entry) .1 + textOf (now (image .entry)) wanted.Language index .0) ⌝ }
+{
+    about::text(image, Wanted::Language, index)
+}
+
+pub fn description_language<'a>(image: &'a [u8], index: usize) -> &'a [u8]
+    ensures { λ r. ⌜ now r ≡ spanned (now (image .entry)) (textOf (now (image .entry)) wanted.DescriptionLanguage index) ⌝ }
+    ensures { λ r. ⌜ ptr r ≡ (ptr (image .entry) .0, ptr (image .entry) .1 + textOf (now (image .entry)) wanted.DescriptionLanguage index .0) ⌝ }
+{
+    about::text(image, Wanted::DescriptionLanguage, index)
+}
+
+pub fn description<'a>(image: &'a [u8], index: usize) -> &'a [u8]
+    ensures { λ r. ⌜ now r ≡ spanned (now (image .entry)) (textOf (now (image .entry)) wanted.Description index) ⌝ }
+    ensures { λ r. ⌜ ptr r ≡ (ptr (image .entry) .0, ptr (image .entry) .1 + textOf (now (image .entry)) wanted.Description index .0) ⌝ }
+{
+    about::text(image, Wanted::Description, index)
+}
 
 // The network of an address: its data's offset, if it has data, and its length, counted in the tree.
 pub fn lookup(image: &[u8], h: Handle, address: Address) -> Found
