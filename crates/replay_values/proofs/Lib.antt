@@ -1,0 +1,2 @@
+-- The laws that the proofs here cite.
+pub mod NumberLaws
