@@ -1,0 +1,2 @@
+pub mod VisitLaws
+pub mod WalkLaws
