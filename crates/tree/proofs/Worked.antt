@@ -1,54 +1,15 @@
 -- Cases worked by hand, as theorems about the definitions.
-use Prim.Native.Nat.{ℕ, _+_}
 use mathlib.Core.Path.{_≡_, refl}
-use mathlib.Core.List.{List, [], _∷_, _++_}
+use mathlib.Core.List.{[], _∷_, _++_}
 use Rattle.number.specs.Bytes.{beAt}
 use Rattle.tree.specs.Record.{recordAt}
-use Rattle.tree.specs.Lookup.{down, ipv4StartOf, answerOf}
 use Rattle.tree.specs.Marker.{marker, agree, lastBelow, markerOf}
-use Rattle.tree.specs.declared.Answer.{Answer}
-use Rattle.tree.specs.declared.Answer.the-variants.{Found, NotFound, Invalid}
 use Rattle.tree.specs.declared.Marked.the-variants.{At, Nowhere}
 
 -- the second node of two
 pub second : (recordAt (0 ∷ 0 ∷ 0 ∷ 0 ∷ 0 ∷ 0 ∷ 0 ∷ 18 ∷ 52 ∷ 86 ∷ 122 ∷ 188 ∷ 222 ∷ 240 ∷ []) 28 1 0 ≡ 118633558)
 unfolding recordAt beAt
 second = refl
-
--- a tree of one node of 24-bit records, before a data section of one byte
-abbrev tree : ℕ → ℕ → List ℕ
-tree left right = 0 ∷ 0 ∷ left ∷ 0 ∷ 0 ∷ right ∷ []
-
--- an IPv4 address in it
-abbrev looked : List ℕ → ℕ → Answer
-looked s addr = let p = down s 24 1 addr 32 0 32 0 in answerOf 1 1 (p .node) (p .depth)
-
--- 7: 1.2.3.4, 200.0.0.1
-pub image-a : (looked (tree 17 1) 16909060 ≡ Found 0 1) × (looked (tree 17 1) 3355443201 ≡ NotFound 1)
-unfolding down answerOf recordAt beAt
-image-a = (refl, refl)
-
--- 8: left record 2, 16, 18, and 17
-pub near : (looked (tree 2 1) 16909060 ≡ Invalid) × (looked (tree 16 1) 16909060 ≡ Invalid)
-unfolding down answerOf recordAt beAt
-near = (refl, refl)
-
-pub far : (looked (tree 18 1) 16909060 ≡ Invalid) × (looked (tree 17 1) 16909060 ≡ Found 0 1)
-unfolding down answerOf recordAt beAt
-far = (refl, refl)
-
--- 9: left record 0: 0.0.0.0, 64.0.0.0
-pub endless : (looked (tree 0 1) 0 ≡ NotFound 32) × (looked (tree 0 1) 1073741824 ≡ NotFound 2)
-unfolding down answerOf recordAt beAt
-endless = (refl, refl)
-
--- 11: a tree of IPv6 addresses, records 1 and 17: 1.2.3.4
-pub ipv4 :
-    let start = ipv4StartOf (tree 1 17) 24 1 in
-    let p = down (tree 1 17) 24 1 16909060 32 0 32 (start .node) in
-    answerOf 1 1 (p .node) (start .depth + p .depth) ≡ NotFound 1
-unfolding down answerOf recordAt beAt
-ipv4 = refl
 
 -- no marker
 pub empty : markerOf [] ≡ Nowhere
