@@ -1,0 +1,5 @@
+-- The theorems.
+pub mod Below
+pub mod FullWalkLaws
+pub mod Demand
+pub mod Worked

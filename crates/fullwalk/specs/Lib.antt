@@ -1,0 +1,2 @@
+-- The definitions that the theorems speak of.
+pub mod FullWalk

@@ -1,0 +1,3 @@
+-- The theorems.
+pub mod ListLaws
+pub mod TileLaws

@@ -1,0 +1,1 @@
+// No code: the tree's own networks, and what holds of them.

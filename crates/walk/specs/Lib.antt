@@ -1,0 +1,4 @@
+-- The definitions that the contracts cite.
+pub mod Walks
+pub mod Starts
+pub mod Calls
