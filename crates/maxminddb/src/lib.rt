@@ -7,6 +7,8 @@ ghost use Rattle.opening.specs.Opening.{openOf, ageOf};
 ghost use Rattle.about.specs.About.{textOf};
 ghost use Rattle.about.specs.declared.Wanted.the-variants as wanted;
 ghost use Rattle.value.specs.Parts.{spanned};
+ghost use Rattle.walk.specs.Starts.{beginOf};
+ghost use Rattle.walk.specs.Calls.{nextOf};
 ghost use Rattle.maxminddb.specs.Entries.{lookupOf, readOf, partOf, keyOf, indexOf};
 use about::Wanted;
 use handle::Handle;
@@ -20,11 +22,16 @@ use opening::Aged;
 use opening::Opened;
 use path::Cursor;
 use path::Step;
+use place::Options;
 use refusal::HANDLE;
 use section::Barred;
 use section::data_section;
 use section::gate;
 use value::Value;
+use walk::Called;
+use walk::Range;
+use walk::Started;
+use walk::Walk;
 
 // The numbers that the other entries take, with the metadata's own; its languages and descriptions are counted there.
 pub fn open(image: &[u8]) -> Opened
@@ -159,4 +166,18 @@ pub fn step_from_end(image: &[u8], h: Handle, c: Cursor, index: usize) -> Step
     ensures { λ r. ⌜ r ≡ indexOf (now (image .entry)) h c index true ⌝ }
 {
     step(image, h, c, index, true)
+}
+
+// A walk over the networks of a range. A refused start's walk has no place waiting.
+pub fn within(image: &[u8], h: Handle, range: Range, options: Options) -> Started
+    ensures { λ r. ⌜ r ≡ beginOf (now (image .entry)) h range options ⌝ }
+{
+    walk::start::begin(image, h, range, options)
+}
+
+// The next network of a walk, after at most `budget` places, and the walk from there.
+pub fn next(image: &[u8], h: Handle, w: Walk, budget: u64) -> Called
+    ensures { λ r. ⌜ r ≡ nextOf (now (image .entry)) h w budget ⌝ }
+{
+    walk::call::next(image, h, w, budget)
 }
