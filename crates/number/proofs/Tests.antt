@@ -23,3 +23,7 @@ chosen false e = inr (refl, e)
 pub chosen-first : {A : Type 0} (b : Bool) {x y z : A} → (y ≡ z → ⊥) → cond b x y ≡ z → (b ≡ true) × (x ≡ z)
 chosen-first true n e = (refl, e)
 chosen-first false n e = absurd (n e)
+
+-- what a test that came out true says
+pub passed : {r : Bool} (a b : ℕ) → r ≡ leb a b → r ≡ true → a ≤ b
+passed a b e t = leb-true a b (sym e ∙ t)

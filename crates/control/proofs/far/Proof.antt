@@ -1,10 +1,10 @@
 use borrow.Author.Needs.{needs}
 use Rattle.control.proofs.far.Statement.{statement}
 use Rattle.control.proofs.far.Tie as tie
-use borrow.Author.Tests.{leb-true}
+use Rattle.number.proofs.Tests.{passed}
 use native.Mathlib.Omega.{arith}
 use mathlib.Core.Path.{sym, _∙_}
-use Prim.Native.Nat.{_+_, _≤_}
+use Prim.Native.Nat.{_+_}
 use lib.ListN.{length}
 use denote.Ref.{now}
 use Rattle.number.proofs.ByteLaws.{small}
@@ -15,8 +15,7 @@ room-requires c κs = search needs
 be-requires : tie.Need-be-requires
 be-requires c κs =
     let a = c .before .before .before .args in
-    let h : a .p + a .n ≤ length (now (a .s)) = leb-true _ _ (sym (c .before .room .ensures) ∙ c .if1 .taken) in
-    (omega arith, h)
+    (omega arith, passed (a .p + a .n) (length (now (a .s))) (c .before .room .ensures) (c .if1 .taken))
 
 add-t10 : tie.Need-add-t10
 add-t10 c =
@@ -26,8 +25,7 @@ add-t10 c =
 add-t11 : tie.Need-add-t11
 add-t11 c =
     let a = c .before .before .before .before .args in
-    let h : a .p + a .n ≤ length (now (a .s)) = leb-true _ _ (sym (c .before .before .room .ensures) ∙ c .before .if1 .taken) in
-    omega arith
+    omega (arith, passed (a .p + a .n) (length (now (a .s))) (c .before .before .room .ensures) (c .before .if1 .taken))
 
 returns : tie.Need-returns
 returns c = simp (sym (c .before .before .room .ensures) ∙ c .before .if1 .taken, c .be .ensures .0)
