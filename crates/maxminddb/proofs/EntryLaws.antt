@@ -1,11 +1,20 @@
--- Laws of parts: a part of the data section is a part of the image.
-use Prim.Native.Nat.{ℕ, _+_, _<_}
+-- Laws of the entries: a part of the data section is a part of the image, and what a lookup depends on.
+use Prim.Native.Nat.{ℕ, _+_, _*_, _/_, _<_}
 use mathlib.Core.Path.{_≡_, refl, sym}
-use mathlib.Core.Bool.{Bool, true, false, false≢true}
+use mathlib.Core.Bool.{Bool, true, false, cond, false≢true}
 use mathlib.Core.List.{List}
 use native.Mathlib.Omega.{arith}
 use lib.ListN.{length, getD}
+use Rattle.handle.specs.Handle.{fitsOf}
 use Rattle.handle.specs.declared.Handle.{Handle}
+use Rattle.handle.proofs.HandleLaws.{Fit, fit}
+use Rattle.tree.proofs.RecordLaws.{Same}
+use Rattle.lookup.specs.Lookup.{askedOf}
+use Rattle.lookup.specs.declared.Address.{Address}
+use Rattle.lookup.specs.declared.Asked.{Asked}
+use Rattle.lookup.specs.declared.Asked.the-variants as asked
+use Rattle.lookup.specs.declared.Found.the-variants as found
+use Rattle.lookup.proofs.LookupLaws.{found-same}
 use Rattle.section.specs.Section.{sectionOf, barredOf}
 use Rattle.section.specs.declared.Barred.the-variants.{Free, By}
 use Rattle.section.proofs.SectionLaws.{part-of-image, section-length, section-bytes}
@@ -16,7 +25,7 @@ use Rattle.value.specs.declared.Extent.{Extent}
 use Rattle.value.specs.declared.Extent.the-variants.{Of, Nothing}
 use Rattle.value.proofs.PartLaws.{part-within}
 use Rattle.path.specs.declared.Cursor.{Cursor}
-use Rattle.maxminddb.specs.Entries.{placed, partOf, readOf}
+use Rattle.maxminddb.specs.Entries.{onAsked, lookupOf, placed, partOf, readOf}
 
 module _ (image : List ℕ) (bytes : (i : ℕ) → getD image i 0 < 256) (h : Handle) (c : Cursor) (b : Bool) where
   -- the section's part, seen from the image
@@ -51,3 +60,17 @@ part-none image h c b free is = rw free (go (sizeOf b (readAt (sectionOf image h
 pub part-barred : (image : List ℕ) (h : Handle) (c : Cursor) (b : Bool) (r : ℕ) → barredOf h (length image) (c .place) ≡ By r → partOf image h c b ≡ (0, 0)
 unfolding partOf readOf
 part-barred image h c b r e = rw e
+
+-- a lookup depends on the tree's bytes, the handle and the image's length, and on nothing else
+pub lookup-same : (s t : List ℕ) (h : Handle) (a : Address) → length s ≡ length t → Same (h .nodes * (h .size / 4)) s t → lookupOf s h a ≡ lookupOf t h a
+unfolding lookupOf
+lookup-same s t h a e same = go (fitsOf h (length t)) refl
+  where
+    asks : (x : Asked) → Fit h (length t) → onAsked s h x ≡ onAsked t h x
+    asks (asked.By w) f = found-same s t h (length t) f same w
+    asks (asked.Refused r) f = refl
+
+    go : (b : Bool) → fitsOf h (length t) ≡ b
+        → cond (fitsOf h (length s)) (onAsked s h (askedOf h a)) (found.Refused 9) ≡ cond (fitsOf h (length t)) (onAsked t h (askedOf h a)) (found.Refused 9)
+    go true f = rw (e, f) (asks (askedOf h a) (fit h (length t) f))
+    go false f = rw (e, f)
