@@ -4,10 +4,10 @@ use mathlib.Core.List.{List}
 use mathlib.Core.Bool.{cond}
 use lib.ListN.{length, take, drop}
 use lib.Dec.{leb}
-use Rattle.metadata.specs.Entries.{languageOf, descriptionOf}
+use Rattle.entries.specs.Entries.{languageOf, descriptionOf}
 use Rattle.metadata.specs.declared.Metadata.{Metadata}
-use Rattle.metadata.specs.declared.Span.{Span}
-use Rattle.metadata.specs.declared.Span.the-variants.{At, Absent}
+use Rattle.entries.specs.declared.Span.{Span}
+use Rattle.entries.specs.declared.Span.the-variants.{At, Absent}
 use Rattle.opening.specs.Opening.{openOf}
 use Rattle.opening.specs.declared.Opened.{Opened}
 use Rattle.opening.specs.declared.Opened.the-variants.{Is, Refused}

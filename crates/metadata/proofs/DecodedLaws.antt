@@ -17,7 +17,7 @@ use Rattle.charge.specs.declared.Charged.the-variants.{Within, Over}
 use Rattle.control.specs.Control.{isType}
 use Rattle.stored.specs.Stored.{resolvedAt}
 use Rattle.stored.specs.declared.Layout as layout
-use Rattle.fields.proofs.ValueLaws.{u16-below, u32-below, u64-below}
+use Rattle.fields.proofs.ValueLaws.{u16-below, u32-below, u64-below, Text, text-field, Texts, array-field, map-field}
 use Rattle.metadata.specs.Metadata.{pairAt, unseen, seenWith, noneSeen, fieldAt, allSeen, metadataFrom, wholeOf, after, gather, nothingCharged, mapOn, sectionOn, metadataOf}
 use Rattle.metadata.specs.declared.Pair.{Pair}
 use Rattle.metadata.specs.declared.Pair.the-variants.{Known, Other, NoPair}
@@ -145,3 +145,14 @@ module _ (s : List ℕ) (bytes : (i : ℕ) → getD s i 0 < 256) {m : Metadata} 
         nodes = let r = at-field 7 (omega arith) in u32-below s bytes (r .at) (r .before) (r .reads);
         size = let r = at-field 8 (omega arith) in u16-below s bytes (r .at) (r .before) (r .reads);
       })
+
+  -- the database type is a text in the section
+  pub database-text : Text s (m .database .size) (m .database .from)
+  database-text = let r = at-field 3 (omega arith) in rw (← d .whole) (text-field s bytes (r .at) (r .before) (r .reads))
+
+  -- the languages are texts, and the description twice as many
+  pub languages-texts : Texts s (m .languages .size) (m .languages .from)
+  languages-texts = let r = at-field 6 (omega arith) in rw (← d .whole) (array-field s (r .at) (r .before) (r .reads))
+
+  pub description-texts : Texts s (m .description .size * 2) (m .description .from)
+  description-texts = let r = at-field 4 (omega arith) in rw (← d .whole) (map-field s (r .at) (r .before) (r .reads))

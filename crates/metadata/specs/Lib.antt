@@ -1,4 +1,3 @@
 -- The definitions that the contracts cite.
 pub mod Names
 pub mod Metadata
-pub mod Entries

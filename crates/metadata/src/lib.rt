@@ -1,10 +1,9 @@
 // The metadata, decoded into the fields of `metadata.rs`.
 ghost use mathlib.Core.Path.{_≡_};
 ghost use mathlib.Core.Bool.{cond};
-ghost use Prim.Native.Nat.{_+_, _-_, _≤_, _<_};
+ghost use Prim.Native.Nat.{_-_, _<_};
 ghost use Rattle.metadata.specs.Names.{fieldOf, wantOf};
 ghost use Rattle.metadata.specs.Metadata.{keyPaid, keyAt, pairAt, allSeen, partOf, wholeOf, gather, noneSeen, metadataOf};
-ghost use Rattle.metadata.specs.Entries.{spanOf, lastOf, languageOf, descriptionOf};
 use charge::Charge;
 use charge::Charged;
 use charge::count_payload;
@@ -13,7 +12,6 @@ use control::TYPE_MAP;
 use control::is_type;
 use fields::Got;
 use fields::decode_direct;
-use fields::texts;
 use key::Name;
 use key::read_str_as_bytes;
 use key::same;
@@ -81,18 +79,6 @@ pub struct Metadata {
 pub enum Read {
     Is(Metadata),
     Wrong,
-}
-
-// Where the bytes of a text lie in the section.
-pub enum Span {
-    At { from: usize, size: usize },
-    Absent,
-}
-
-// The language of a description, and its text.
-pub struct Described {
-    pub language: Span,
-    pub text: Span,
 }
 
 fn pick(hit: bool, field: usize, other: usize) -> usize
@@ -311,76 +297,5 @@ pub fn deserialize(s: &[u8]) -> Read
             }
         }
         Layout::Bad => Read::Wrong,
-    }
-}
-
-fn span_of(text: Got) -> Span
-    ensures { λ r. ⌜ r ≡ spanOf text ⌝ }
-{
-    match text {
-        Got::Is {
-            value,
-            place,
-            next: _,
-            charge: _,
-        } => Span::At {
-            from: place,
-            size: value as usize,
-        },
-        Got::Wrong => Span::Absent,
-    }
-}
-
-// In two runs, because twice an index might not fit a number.
-fn last_text(s: &[u8], from: usize, passed: usize, more: usize) -> Span
-    requires { ⌜ 0 < more ⌝ }
-    ensures { λ r. ⌜ r ≡ lastOf (now (s .entry)) from (passed + more) ⌝ }
-{
-    match texts(
-        s,
-        passed,
-        from,
-        Charge {
-            values: 0,
-            payload: 0,
-        },
-    ) {
-        Got::Is {
-            value: _,
-            place: _,
-            next,
-            charge,
-        } => span_of(texts(s, more, next, charge)),
-        Got::Wrong => Span::Absent,
-    }
-}
-
-// The language at an index. The metadata may be forged: then it may be absent, or another text.
-pub fn language(s: &[u8], m: Metadata, index: usize) -> Span
-    ensures { λ r. ⌜ r ≡ languageOf (now (s .entry)) m index ⌝ }
-{
-    let from = m.languages.from;
-    if index < m.languages.size {
-        last_text(s, from, index, 1)
-    } else {
-        Span::Absent
-    }
-}
-
-// The description at an index, with its language.
-pub fn description(s: &[u8], m: Metadata, index: usize) -> Described
-    ensures { λ r. ⌜ r ≡ descriptionOf (now (s .entry)) m index ⌝ }
-{
-    let from = m.description.from;
-    if index < m.description.size {
-        Described {
-            language: last_text(s, from, index, index + 1),
-            text: last_text(s, from, index + 1, index + 1),
-        }
-    } else {
-        Described {
-            language: Span::Absent,
-            text: Span::Absent,
-        }
     }
 }

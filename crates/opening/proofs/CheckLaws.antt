@@ -1,13 +1,14 @@
 -- Laws of the checks: each is reached where those before it pass.
 use Prim.Native.Nat.{ℕ, _≤_, _<_}
-use mathlib.Core.Path.{_≡_}
+use mathlib.Core.Path.{_≡_, _∙_}
 use mathlib.Core.Bool.{true, false}
 use mathlib.Core.List.{List}
+use lib.Dec.{leb}
 use borrow.Author.Tests.{eq-eqb, ne-eqb, le-leb, lt-leb}
 use Rattle.refusal.specs.Refusals as refusal
 use Rattle.handle.specs.Handle.{versionKnown, sizeKnown, dataStart}
 use Rattle.metadata.specs.declared.Metadata.{Metadata}
-use Rattle.opening.specs.Opening.{lastTime, readerOf, checked}
+use Rattle.opening.specs.Opening.{lastTime, readerOf, gate, checked}
 use Rattle.opening.specs.declared.Opened.the-variants.{Is, Refused}
 
 module _ (s : List ℕ) (marker : ℕ) (m : Metadata) where
@@ -32,26 +33,14 @@ module _ (s : List ℕ) (marker : ℕ) (m : Metadata) where
               simp (eq-eqb (m .major) 2 major, version, le-leb 1 (m .nodes) nodes, le-leb (m .build) lastTime build, h)
 
           module _ (size : sizeKnown (m .size) ≡ true) where
-            pub tree-refused : marker < dataStart (m .nodes) (m .size) → checked s marker m ≡ Refused refusal.treeTooLong
-            tree-refused h =
-                simp (
-                  eq-eqb (m .major) 2 major,
-                  version,
-                  le-leb 1 (m .nodes) nodes,
-                  le-leb (m .build) lastTime build,
-                  size,
-                  lt-leb (dataStart (m .nodes) (m .size)) marker h,
-                )
+            at-tree :
+                checked s marker m
+                ≡ gate (leb (dataStart (m .nodes) (m .size)) marker) refusal.treeTooLong (Is (readerOf s marker m))
+            at-tree =
+                simp (eq-eqb (m .major) 2 major, version, le-leb 1 (m .nodes) nodes, le-leb (m .build) lastTime build, size)
 
-            pub all-passed :
-                dataStart (m .nodes) (m .size) ≤ marker
-                → checked s marker m ≡ Is (readerOf s marker m)
-            all-passed h =
-                simp (
-                  eq-eqb (m .major) 2 major,
-                  version,
-                  le-leb 1 (m .nodes) nodes,
-                  le-leb (m .build) lastTime build,
-                  size,
-                  le-leb (dataStart (m .nodes) (m .size)) marker h,
-                )
+            pub tree-refused : marker < dataStart (m .nodes) (m .size) → checked s marker m ≡ Refused refusal.treeTooLong
+            tree-refused h = at-tree ∙ simp (lt-leb (dataStart (m .nodes) (m .size)) marker h)
+
+            pub all-passed : dataStart (m .nodes) (m .size) ≤ marker → checked s marker m ≡ Is (readerOf s marker m)
+            all-passed h = at-tree ∙ simp (le-leb (dataStart (m .nodes) (m .size)) marker h)

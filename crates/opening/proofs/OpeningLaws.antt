@@ -8,6 +8,7 @@ use native.Mathlib.Omega.{arith}
 use lib.ListN.{length, getD}
 use lib.Seq.{getD-drop}
 use lib.Dec.{leb, eqb}
+use lib.IntN.{pos, _-ℤ_}
 use borrow.Author.Tests.{le-leb, lt-leb, leb-true, leb-false, eqb-true, eqb-false}
 use Rattle.refusal.specs.Refusals as refusal
 use Rattle.handle.specs.Handle.{imageBound, versionKnown, sizeKnown, dataStart, fitsOf}
@@ -22,13 +23,14 @@ use Rattle.metadata.specs.Metadata.{metadataOf}
 use Rattle.metadata.specs.declared.Metadata.{Metadata}
 use Rattle.metadata.specs.declared.Read as read
 use Rattle.metadata.proofs.DecodedLaws.{numbers-small}
-use Rattle.opening.specs.Opening.{lastTime, metadataSection, ipv4Of, handleOf, readerOf, checked, onRead, onMarker, openOf}
+use Rattle.opening.specs.Opening.{lastTime, metadataSection, ipv4Of, handleOf, readerOf, checked, onRead, onMarker, openOf, ageOf}
 use Rattle.opening.specs.declared.Reader.{Reader}
+use Rattle.opening.specs.declared.Aged as aged
 use Rattle.opening.specs.declared.Opened.the-variants.{Is, Refused}
 use Rattle.opening.proofs.TreeLaws.{marker-inside}
 use Rattle.opening.proofs.CheckLaws as check
 
--- no refusal of an image longer than the bound
+-- an image that is not longer than the bound
 abbrev pub Short : List ℕ → Type 0
 Short s = length s ≤ imageBound
 
@@ -94,7 +96,8 @@ unsized : {n : ℕ} → (Sized n → ⊥) → sizeKnown n ≡ false
 unsized {n} f = false-where (sizeKnown n) (sized n) f
 
 module _ (s : List ℕ) where
-  open-long : imageBound < length s → openOf s ≡ Refused refusal.imageTooLong
+  -- an image longer than the bound, whatever it holds
+  pub open-long : imageBound < length s → openOf s ≡ Refused refusal.imageTooLong
   unfolding openOf
   open-long h = simp (lt-leb (length s) imageBound h)
 
@@ -219,6 +222,20 @@ module _ (s : List ℕ) where
 -- the build time of an opened image
 pub open-build : (s : List ℕ) {o : Reader} → openOf s ≡ Is o → o .metadata .build ≤ lastTime
 open-build s e = let p = is-open s e in rw (p .reader) (p .passes .build)
+
+-- the age of an image that opens, and of one that does not
+module _ (s : List ℕ) (time : ℕ) where
+  pub age-is : {o : Reader} → openOf s ≡ Is o → time ≤ lastTime → ageOf s time ≡ aged.the-variants.Is (pos time -ℤ pos (o .metadata .build))
+  unfolding ageOf
+  age-is e h = simp (e, le-leb time lastTime h)
+
+  pub age-late : {o : Reader} → openOf s ≡ Is o → lastTime < time → ageOf s time ≡ aged.the-variants.Refused refusal.time
+  unfolding ageOf
+  age-late e h = simp (e, lt-leb time lastTime h)
+
+  pub age-refused : {n : ℕ} → openOf s ≡ Refused n → ageOf s time ≡ aged.the-variants.Refused n
+  unfolding ageOf
+  age-refused e = simp e
 
 -- the handle of an opened image fits it
 module _ (s : List ℕ) (bytes : (i : ℕ) → getD s i 0 < 256) where

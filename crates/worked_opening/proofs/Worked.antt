@@ -20,9 +20,9 @@ use Rattle.tree.specs.Record.{recordAt}
 use Rattle.opening.specs.Opening.{metadataSection, openOf, ageOf}
 use Rattle.refusal.specs.Refusals as refusal
 use Rattle.handle.specs.declared.Handle.{Handle}
-use Rattle.metadata.specs.Entries.{languageOf, descriptionOf}
+use Rattle.entries.specs.Entries.{languageOf, descriptionOf}
 use Rattle.metadata.specs.declared.Metadata.{Metadata}
-use Rattle.metadata.specs.declared.Span.the-variants.{At, Absent}
+use Rattle.entries.specs.declared.Span.the-variants.{At, Absent}
 use Rattle.opening.specs.declared.Reader.{Reader}
 use Rattle.opening.specs.declared.Opened.the-variants.{Is, Refused}
 use Rattle.opening.specs.declared.Aged as aged
@@ -62,7 +62,7 @@ pub six-opens :
 unfolding with down recordAt bytes openOf markerOf lastBelow agree metadataOf resolvedAt storedAt lyingAt headAt sizedAt sizeAt kindOf beAt linkAt entered paid gather pairAt keyAt nameAt fieldOf sameBytes valueAt textAt many pastAt run allSeen wholeOf
 six-opens = refl
 
--- each refusal of opening, and 6 before 7; one of 24 is a law of `openOf`
+-- each refusal of opening, and 6 before 7; 24 is `open-long` of the crate `opening`
 pub refused :
     (openOf (tree ++ zeros) ≡ Refused refusal.noMarker) × (openOf (image []) ≡ Refused refusal.metadata)
     × (openOf (with (u16 3) (u64 3 232) (u16 4) (u32 1) (u16 24)) ≡ Refused refusal.formatVersion)

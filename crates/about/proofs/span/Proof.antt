@@ -2,7 +2,7 @@ use borrow.Author.Needs.{needs}
 use Rattle.about.proofs.span.Statement.{statement}
 use Rattle.about.proofs.span.Tie as tie
 use mathlib.Core.Path.{ap}
-use Rattle.metadata.specs.declared.Described.{Described}
+use Rattle.entries.specs.declared.Described.{Described}
 
 enum-told : tie.Need-enum-told
 enum-told c = search needs

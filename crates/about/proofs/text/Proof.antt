@@ -10,7 +10,7 @@ use lib.Seq.{drop-drop}
 use denote.Ref.{now, ptr}
 use Rattle.handle.proofs.HandleLaws.{fit}
 use Rattle.opening.proofs.OpeningLaws.{open-fits}
-use Rattle.metadata.specs.declared.Span.the-variants.{At, Absent}
+use Rattle.entries.specs.declared.Span.the-variants.{At, Absent}
 use Rattle.about.specs.About.{spanned, cutOf, wantedOf, inImage, textOf}
 
 -- no text: the image's first 0 bytes

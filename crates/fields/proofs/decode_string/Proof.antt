@@ -1,12 +1,8 @@
 use borrow.Author.Needs.{needs}
 use Rattle.fields.proofs.decode_string.Statement.{statement}
 use Rattle.fields.proofs.decode_string.Tie as tie
-use mathlib.Core.Path.{_≡_, sym, _∙_, ap}
-use Prim.Native.Nat.{ℕ}
+use mathlib.Core.Path.{sym, _∙_}
 use native.Mathlib.Nat.{add-sub-cancel-left}
-use lib.ListN.{take, drop}
-use denote.Ref.{now}
-use Rattle.text.specs.Utf8.{wellFormed}
 
 add-utf8 : tie.Need-add-utf8
 add-utf8 c = search needs
@@ -31,17 +27,11 @@ text-paid-requires c κs = search needs
 
 returns : tie.Need-returns
 returns c =
-    let a = c .before .before .before .before .before .before .args in
-    let w : wellFormed (take (a .size) (drop (a .payload) (now (a .s)))) ≡ c .before .before .before .utf8 .result =
-    ap (λ (j : ℕ). wellFormed (take j (drop (a .payload) (now (a .s))))) (sym (add-sub-cancel-left (a .payload) (a .size))) ∙ sym (c .before .before .before .utf8 .ensures) in
-    simp (w ∙ c .before .before .if1 .taken, sym (c .before .count-payload .ensures)) (c .text-paid .ensures)
+    let w = rw add-sub-cancel-left at (c .before .before .before .utf8 .ensures) in
+    simp (sym w ∙ c .before .before .if1 .taken, sym (c .before .count-payload .ensures)) (c .text-paid .ensures)
 
 returns-2 : tie.Need-returns-2
-returns-2 c =
-    let a = c .before .before .before .before .args in
-    let w : wellFormed (take (a .size) (drop (a .payload) (now (a .s)))) ≡ c .before .utf8 .result =
-    ap (λ (j : ℕ). wellFormed (take j (drop (a .payload) (now (a .s))))) (sym (add-sub-cancel-left (a .payload) (a .size))) ∙ sym (c .before .utf8 .ensures) in
-    simp (w ∙ c .if1 .left)
+returns-2 c = let w = rw add-sub-cancel-left at (c .before .utf8 .ensures) in simp (sym w ∙ c .if1 .left)
 
 pub decode-string-spec : {M : Type 1} → statement M
 decode-string-spec =

@@ -1,6 +1,7 @@
 use Rattle.metadata.proofs.visit_map.Statement.{statement}
 use Rattle.metadata.proofs.visit_map.Tie as tie
 use borrow.Author.Needs.{needs}
+use Prim.Native.Nat.{_<_}
 use mathlib.Core.Path.{_≡_, refl, sym, _∙_}
 use mathlib.Core.Logic.{⊎-elim}
 use native.Mathlib.Omega.{arith}
@@ -15,6 +16,10 @@ Inv-loop s pairs first fields₀ at₀ used₀ left₀ fields at used left =
 abbrev μ-loop : tie.MeasureT-loop
 μ-loop s pairs first fields₀ at₀ used₀ left₀ fields at used left = left
 
+-- the number of a known field is one of the nine
+small : (c : tie.After-known-told Inv-loop μ-loop) → c .before .field .given .0 .0 < 9
+small c = pair-reads (now (c .before .before .before .before .before .before .before .args .s)) _ _ (sym (c .before .before .before .next-pair .ensures) ∙ c .before .field .given .1) .small
+
 loop-holds : tie.Need-loop-holds Inv-loop μ-loop
 loop-holds c = refl
 
@@ -25,19 +30,19 @@ enum-known-field : tie.Need-enum-known-field Inv-loop μ-loop
 enum-known-field c = search needs
 
 mul-if1 : tie.Need-mul-if1 Inv-loop μ-loop
-mul-if1 c = record { fits = omega (arith, pair-reads (now (c .before .before .before .before .before .before .before .args .s)) _ _ (sym (c .before .before .before .next-pair .ensures) ∙ c .before .field .given .1) .small) }
+mul-if1 c = record { fits = omega (arith, small c) }
 
 element-copy-out-if1 : tie.Need-element-copy-out-if1 Inv-loop μ-loop
-element-copy-out-if1 c = pair-reads (now (c .before .before .before .before .before .before .before .args .s)) _ _ (sym (c .before .before .before .next-pair .ensures) ∙ c .before .field .given .1) .small
+element-copy-out-if1 c = small c
 
 returns : tie.Need-returns Inv-loop μ-loop
 returns c = sym (gather-twice _ _ _ _ _ (c .before .before .before .before .before .loop-test .taken) (sym (c .before .before .before .before .next-pair .ensures) ∙ c .before .before .field .given .1) (c .if1 .taken)) ∙ c .before .before .before .before .before .before .loop .inv
 
 mul-fields : tie.Need-mul-fields Inv-loop μ-loop
-mul-fields c = record { fits = omega (arith, pair-reads (now (c .before .before .before .before .before .before .before .before .args .s)) _ _ (sym (c .before .before .before .before .next-pair .ensures) ∙ c .before .before .field .given .1) .small) }
+mul-fields c = record { fits = omega (arith, small (c .before)) }
 
 array-set-from-fields : tie.Need-array-set-from-fields Inv-loop μ-loop
-array-set-from-fields c = pair-reads (now (c .before .before .before .before .before .before .before .before .args .s)) _ _ (sym (c .before .before .before .before .next-pair .ensures) ∙ c .before .before .field .given .1) .small
+array-set-from-fields c = small (c .before)
 
 enum-known-n : tie.Need-enum-known-n Inv-loop μ-loop
 enum-known-n c = search needs

@@ -1,17 +1,12 @@
 use borrow.Author.Needs.{needs}
 use Rattle.opening.proofs.open.Statement.{statement}
 use Rattle.opening.proofs.open.Tie as tie
-use Prim.Native.Nat.{_+_, _-_}
-use mathlib.Core.Path.{_≡_, sym, _∙_, ap}
+use mathlib.Core.Path.{sym, _∙_}
 use native.Mathlib.Omega.{arith}
 use borrow.Author.Tests.{le-leb, lt-leb}
 use denote.Ref.{now}
-use lib.ListN.{length, take, drop}
-use Rattle.metadata.specs.Metadata.{metadataOf}
 use Rattle.opening.specs.Opening.{openOf}
-use Rattle.opening.proofs.TreeLaws.{marker-inside}
-use lib.Seq.{take-all}
-use lib.ListN.{length-drop}
+use Rattle.opening.proofs.TreeLaws.{marker-inside, rest-whole}
 
 returns : tie.Need-returns
 unfolding openOf
@@ -53,20 +48,14 @@ enum-told-2 c = search needs
 returns-2 : tie.Need-returns-2
 unfolding openOf
 returns-2 c =
-    let s = now (c .before .before .before .before .before .before .before .before .before .before .before .before .args .image) in
-    let k = c .before .before .before .before .before .before .before .marker .given .0 .0 + 14 in
-    let e : take (length s - k) (drop k s) ≡ drop k s = take-all (length s - k) (drop k s) (omega (arith, length-drop k s)) in
-    let d : metadataOf (drop k s) ≡ c .before .before .before .before .deserialize .result = ap metadataOf (sym e) ∙ sym (c .before .before .before .before .deserialize .ensures) in
-    simp (le-leb _ _ (c .before .before .before .before .before .before .before .before .before .before .if1 .left), sym (c .before .before .before .before .before .before .before .before .before .find-marker .ensures) ∙ c .before .before .before .before .before .before .before .marker .given .1, d ∙ c .before .before .m .given .1) (c .validate .ensures)
+    let d = rw rest-whole at (c .before .before .before .before .deserialize .ensures) in
+    simp (le-leb _ _ (c .before .before .before .before .before .before .before .before .before .before .if1 .left), sym (c .before .before .before .before .before .before .before .before .before .find-marker .ensures) ∙ c .before .before .before .before .before .before .before .marker .given .1, sym d ∙ c .before .before .m .given .1) (c .validate .ensures)
 
 returns-3 : tie.Need-returns-3
 unfolding openOf
 returns-3 c =
-    let s = now (c .before .before .before .before .before .before .before .before .before .before .args .image) in
-    let k = c .before .before .before .before .before .marker .given .0 .0 + 14 in
-    let e : take (length s - k) (drop k s) ≡ drop k s = take-all (length s - k) (drop k s) (omega (arith, length-drop k s)) in
-    let d : metadataOf (drop k s) ≡ c .before .before .deserialize .result = ap metadataOf (sym e) ∙ sym (c .before .before .deserialize .ensures) in
-    simp (le-leb _ _ (c .before .before .before .before .before .before .before .before .if1 .left), sym (c .before .before .before .before .before .before .before .find-marker .ensures) ∙ c .before .before .before .before .before .marker .given .1, d ∙ c .enum-told .given .1)
+    let d = rw rest-whole at (c .before .before .deserialize .ensures) in
+    simp (le-leb _ _ (c .before .before .before .before .before .before .before .before .if1 .left), sym (c .before .before .before .before .before .before .before .find-marker .ensures) ∙ c .before .before .before .before .before .marker .given .1, sym d ∙ c .enum-told .given .1)
 
 returns-4 : tie.Need-returns-4
 unfolding openOf

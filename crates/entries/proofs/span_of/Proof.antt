@@ -1,6 +1,6 @@
 use borrow.Author.Needs.{needs}
-use Rattle.metadata.proofs.span_of.Statement.{statement}
-use Rattle.metadata.proofs.span_of.Tie as tie
+use Rattle.entries.proofs.span_of.Statement.{statement}
+use Rattle.entries.proofs.span_of.Tie as tie
 
 enum-known-text : tie.Need-enum-known-text
 enum-known-text c = search needs

@@ -1,12 +1,12 @@
 use borrow.Author.Needs.{needs}
-use Rattle.metadata.proofs.last_text.Statement.{statement}
-use Rattle.metadata.proofs.last_text.Tie as tie
+use Rattle.entries.proofs.last_text.Statement.{statement}
+use Rattle.entries.proofs.last_text.Tie as tie
 use mathlib.Core.Path.{sym, _∙_, ap}
 use denote.Ref.{now}
 use Rattle.fields.specs.Fields.{textAt, many, begin}
 use Rattle.fields.proofs.FieldLaws.{many-join, many-any, many-wrong}
 use Rattle.metadata.specs.Metadata.{nothingCharged}
-use Rattle.metadata.specs.Entries.{spanOf}
+use Rattle.entries.specs.Entries.{spanOf}
 
 texts-requires : tie.Need-texts-requires
 texts-requires c κs = search needs

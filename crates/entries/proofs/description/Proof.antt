@@ -1,11 +1,11 @@
 use borrow.Author.Needs.{needs}
-use Rattle.metadata.proofs.description.Statement.{statement}
-use Rattle.metadata.proofs.description.Tie as tie
+use Rattle.entries.proofs.description.Statement.{statement}
+use Rattle.entries.proofs.description.Tie as tie
 use Prim.Native.Nat.{_+_, _*_}
 use mathlib.Core.Path.{_≡_}
 use native.Mathlib.Omega.{arith}
 use borrow.Author.Tests.{lt-ltb, le-ltb}
-use Rattle.metadata.specs.Entries.{descriptionOf}
+use Rattle.entries.specs.Entries.{descriptionOf}
 
 add-last-text : tie.Need-add-last-text
 add-last-text c = search needs

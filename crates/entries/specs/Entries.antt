@@ -5,11 +5,11 @@ use mathlib.Core.List.{List}
 use lib.Dec.{ltb}
 use Rattle.fields.specs.Fields.{textsAt}
 use Rattle.fields.specs.declared.Got as got
 use Rattle.metadata.specs.Metadata.{nothingCharged}
 use Rattle.metadata.specs.declared.Metadata.{Metadata}
-use Rattle.metadata.specs.declared.Span.{Span}
-use Rattle.metadata.specs.declared.Span.the-variants.{At, Absent}
-use Rattle.metadata.specs.declared.Described.{Described}
+use Rattle.entries.specs.declared.Span.{Span}
+use Rattle.entries.specs.declared.Span.the-variants.{At, Absent}
+use Rattle.entries.specs.declared.Described.{Described}
 
 abbrev pub spanOf : got.Got → Span
 spanOf (got.the-variants.Is n p next c) = At p n

@@ -1,8 +1,8 @@
 use borrow.Author.Needs.{needs}
-use Rattle.metadata.proofs.language.Statement.{statement}
-use Rattle.metadata.proofs.language.Tie as tie
+use Rattle.entries.proofs.language.Statement.{statement}
+use Rattle.entries.proofs.language.Tie as tie
 use borrow.Author.Tests.{lt-ltb, le-ltb}
-use Rattle.metadata.specs.Entries.{languageOf}
+use Rattle.entries.specs.Entries.{languageOf}
 
 last-text-requires : tie.Need-last-text-requires
 last-text-requires c κs = search needs

@@ -1,0 +1,2 @@
+-- What languages and descriptions are, of metadata that was decoded.
+pub mod EntryLaws
