@@ -34,7 +34,8 @@ use Rattle.walk.specs.declared.Called.{Called}
 use Rattle.walk.specs.Walks.{none, walkFrom, noWalk, newest, taken, added}
 use Rattle.walk.specs.Starts.{askedOf, rangeKey, isIpv6InIpv4, lacksSubtree, startNode, wayTo, firstOf, refusedStart, begunWith, beginOf}
 use Rattle.walk.specs.Calls.{dataSection, outOfShape, after, called, goes, nextOf}
-use Rattle.walk.proofs.CallLaws.{wide-in, by-goes}
+use Rattle.walk.proofs.StartLaws.{asked-wide, wide-in}
+use Rattle.walk.proofs.CallLaws.{by-goes}
 use Rattle.carried.specs.Carried.{Addressed, Carried, begun, next}
 use Rattle.carried.proofs.Rooms.{Each, each-taken, each-added}
 
@@ -165,10 +166,6 @@ module _ (s : List ℕ) (h : Handle) where
 
   masked-small : (n width len : ℕ) → n < 2 ^ 32 → maskedTo n width len < 2 ^ 32
   masked-small n width len l = omega (arith, split n (width - len))
-
-  asked-wide : (r : Range) → (askedOf r .width ≡ 32) ⊎ (askedOf r .width ≡ 128)
-  asked-wide (Ipv4 addr len) = inl refl
-  asked-wide (Ipv6 addr len) = inr refl
 
   asked-small : (r : Range) → Addressed r → askedOf r .width ≡ 32 → numberOf (askedOf r .key) < 2 ^ 32
   asked-small (Ipv4 addr len) a e = omega arith

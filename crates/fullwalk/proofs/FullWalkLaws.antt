@@ -27,7 +27,8 @@ use Rattle.walk.specs.declared.Called.{Called}
 use Rattle.walk.specs.Walks.{none, walkFrom, newest, taken, added}
 use Rattle.walk.specs.Starts.{firstOf, beginOf}
 use Rattle.walk.specs.Calls.{dataSection, turnAt, after, goes, nextOf}
-use Rattle.walk.proofs.CallLaws.{wide-in, by-goes}
+use Rattle.walk.proofs.StartLaws.{wide-in}
+use Rattle.walk.proofs.CallLaws.{by-goes}
 use Rattle.carried.specs.Carried.{Addressed, begun}
 use Rattle.carried.proofs.Rooms.{Each, each-taken, each-added}
 use Rattle.carried.proofs.InShape.{Sound, newest-good, in-shape, sound-taken, sound-opened, sound}

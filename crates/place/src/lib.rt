@@ -52,8 +52,8 @@ pub struct Network {
     pub offset: Offset,
 }
 
-// What a walk's call hands out. A failed place (11, 12, 14) is gone and the walk goes on; a refused call (9, 13) took
-// nothing with it.
+// What a walk's call hands out. 11, 12 and 14 fail one place, which is gone, and the walk goes on after it; 9 and 13 refuse
+// the walk as it stands.
 pub enum Outcome {
     Given(Network),
     Failed(u8),

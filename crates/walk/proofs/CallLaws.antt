@@ -37,10 +37,6 @@ frame-in count width e =
     let n = neither (ltb 129 count) (not (eqb width 32 || eqb width 128)) e in
     (ltb-false 129 count (n .0), either-width width (eqb width 32) (eqb width 128) refl refl (n .1))
 
-pub wide-in : {width : ℕ} → (width ≡ 32) ⊎ (width ≡ 128) → width ≤ 128
-wide-in (inl e) = omega arith
-wide-in (inr e) = omega arith
-
 -- its newest place: no longer than the width, and with room for a child if it is a node above full width
 pub newest-long : (nodes count width : ℕ) (p : Place) → newestOut nodes count width p ≡ false → p .len ≤ width
 unfolding newestOut

@@ -15,8 +15,8 @@ use Rattle.place.specs.declared.Turn.{Turn}
 use Rattle.place.proofs.TurnLaws.{opened}
 use Rattle.walk.specs.Walks.{newest}
 use Rattle.walk.specs.Calls.{outOfShape, turnAt, after, called, ends, goes, nextOf}
-use Rattle.walk.proofs.StartLaws.{tree-of}
-use Rattle.walk.proofs.CallLaws.{frame-in, wide-in, newest-long, newest-room, out-by-frame, out-by-newest, after-opened, goes-end, goes-out, goes-paused, goes-within}
+use Rattle.walk.proofs.StartLaws.{tree-of, wide-in}
+use Rattle.walk.proofs.CallLaws.{frame-in, newest-long, newest-room, out-by-frame, out-by-newest, after-opened, goes-end, goes-out, goes-paused, goes-within}
 
 abbrev Inv-loop : tie.InvT-loop
 Inv-loop image h budget base marker section none options width w₀ n₀ w n =

@@ -4,7 +4,7 @@ use Rattle.walk.proofs.start.begin.Tie as tie
 use mathlib.Core.Path.{sym, _∙_}
 use borrow.Author.Tests.{not-true, not-false, le-leb, lt-leb}
 use Rattle.walk.specs.Starts.{beginOf}
-use Rattle.walk.proofs.StartLaws.{asked-wide}
+use Rattle.walk.proofs.StartLaws.{asked-wide, wide-in}
 
 fits-requires : tie.Need-fits-requires
 fits-requires c κs = search needs
@@ -41,7 +41,7 @@ returns-3 c =
     simp (f, le-leb _ _ (rw (c .before .before .before .before .before .asked-of .ensures) at (c .before .before .before .if2 .left)), rw (c .before .before .before .before .before .asked-of .ensures) at (sym (c .before .before .is-ipv6-in-ipv4 .ensures) ∙ c .before .if3 .taken)) (c .refused-start3 .ensures)
 
 first-of-requires : tie.Need-first-of-requires
-first-of-requires c κs = (sym (c .before .before .before .before .before .before .fits2 .ensures) ∙ not-false _ (c .before .before .before .before .before .if1 .left), (c .before .before .if2 .left, rw (c .before .before .before .before .asked-of .ensures) (asked-wide (c .before .before .before .before .before .before .before .before .args .range))))
+first-of-requires c κs = (sym (c .before .before .before .before .before .before .fits2 .ensures) ∙ not-false _ (c .before .before .before .before .before .if1 .left), (c .before .before .if2 .left, rw (c .before .before .before .before .asked-of .ensures) (wide-in (asked-wide (c .before .before .before .before .before .before .before .before .args .range)))))
 
 walk-from-requires : tie.Need-walk-from-requires
 walk-from-requires c κs = search needs
