@@ -22,10 +22,9 @@ use Rattle.place.specs.Shape.{frameOut, keyOut, newestOut}
 use Rattle.place.specs.Turns.{childKey, childOf}
 use Rattle.place.specs.declared.Place.{Place}
 use Rattle.place.specs.declared.Options.{Options}
-use Rattle.place.specs.declared.Outcome.{Outcome}
 use Rattle.place.specs.declared.Outcome.the-variants.{Refused}
 use Rattle.place.specs.declared.Turn.the-variants.{Opened}
-use Rattle.place.proofs.TurnLaws.{Handed, network, failure, opened, out-handed}
+use Rattle.place.proofs.TurnLaws.{handed-only, opened, out-handed}
 use Rattle.walk.specs.declared.Range.{Range}
 use Rattle.walk.specs.declared.Range.the-variants.{Ipv4, Ipv6}
 use Rattle.walk.specs.declared.Asked.{Asked}
@@ -132,10 +131,6 @@ module _ (s : List ℕ) (h : Handle) where
       (sound-added _ _ (omega arith) (sound-taken w d) (good-right s (h .size) (w .width) (w .count - 1) (newest w) g short))
       (good-left s (h .size) (w .width) (w .count - 1) (newest w) g short)
 
-  never : {a : Outcome} → Handed a → a ≡ Refused refusal.outOfShape → ⊥
-  never (network n) e = let z : _≡_ {A = ℕ} 0 1 = cc in omega arith
-  never (failure k) e = let z : _≡_ {A = ℕ} 0 1 = cc in omega arith
-
   abbrev Fine : Called → Type 0
   Fine c = Sound (c .walk) × (c .answer ≡ Refused refusal.outOfShape → ⊥)
 
@@ -148,7 +143,7 @@ module _ (s : List ℕ) (h : Handle) where
         paused = λ t w r d. (d, λ e. let z : _≡_ {A = ℕ} 0 1 = cc in omega arith);
         handed = λ n t w a r e d. (
           sound-taken w d,
-          never (out-handed (dataSection s h) h (w .options) (w .width) (newest w) a e),
+          handed-only (out-handed (dataSection s h) h (w .options) (w .width) (newest w) a e) .0 refusal.outOfShape,
         );
         passed = λ n t w c r e q d. q (sound-taken w d);
         opened = λ n t w c r e q d. q (sound-opened w d (r .0) (opened (dataSection s h) h (w .options) (w .width) (newest w) e .1));

@@ -8,19 +8,13 @@ use lib.ListN.{length}
 use Rattle.refusal.specs.Refusals as refusal
 use Rattle.handle.specs.declared.Handle.{Handle}
 use Rattle.handle.specs.Handle.{fitsOf}
-use Rattle.place.specs.declared.Outcome.{Outcome}
 use Rattle.place.specs.declared.Outcome.the-variants.{Refused, Paused}
-use Rattle.place.proofs.TurnLaws.{Handed, network, failure, out-handed}
+use Rattle.place.proofs.TurnLaws.{handed-only, out-handed}
 use Rattle.walk.specs.declared.Walk.{Walk}
 use Rattle.walk.specs.declared.Called.{Called}
 use Rattle.walk.specs.Walks.{newest}
 use Rattle.walk.specs.Calls.{dataSection, called, goes, nextOf}
 use Rattle.walk.proofs.CallLaws.{by-goes}
-
--- no place hands out Paused
-never : {a : Outcome} → Handed a → a ≡ Paused → ⊥
-never (network n) e = let z : _≡_ {A = ℕ} 0 1 = cc in omega arith
-never (failure k) e = let z : _≡_ {A = ℕ} 0 1 = cc in omega arith
 
 -- of n places left and t taken: all n are taken before Paused, and never more
 abbrev Counted : ℕ → ℕ → Called → Type 0
@@ -33,7 +27,7 @@ counted s h =
       end = λ n t w z. (omega arith, λ e. cc);
       out = λ n t w l f. (omega arith, λ e. cc);
       paused = λ t w r. (omega arith, λ e. omega arith);
-      handed = λ n t w a r e. (omega arith, λ q. absurd (never (out-handed (dataSection s h) h (w .options) (w .width) (newest w) a e) q));
+      handed = λ n t w a r e. (omega arith, λ q. absurd (handed-only (out-handed (dataSection s h) h (w .options) (w .width) (newest w) a e) .1 q));
       passed = λ n t w c r e q. (omega (arith, q .0), λ p. omega (arith, q .1 p));
       opened = λ n t w c r e q. (omega (arith, q .0), λ p. omega (arith, q .1 p));
     })

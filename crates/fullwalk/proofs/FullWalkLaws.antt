@@ -20,7 +20,7 @@ use Rattle.place.specs.declared.Place.{Place}
 use Rattle.place.specs.declared.Outcome.{Outcome}
 use Rattle.place.specs.declared.Outcome.the-variants.{End}
 use Rattle.place.specs.declared.Turn.the-variants.{Out, Opened}
-use Rattle.place.proofs.TurnLaws.{Handed, network, failure, opened, out-handed}
+use Rattle.place.proofs.TurnLaws.{Handed, network, failure, handed-only, opened, out-handed}
 use Rattle.walk.specs.declared.Range.the-variants.{Ipv4, Ipv6}
 use Rattle.walk.specs.declared.Walk.{Walk}
 use Rattle.walk.specs.declared.Called.{Called}
@@ -38,10 +38,6 @@ use Rattle.fullwalk.proofs.Below.{Block, under, below, awaited, below-a
 handed-list : {a : Outcome} → Handed a → handedOut a ≡ a ∷ []
 handed-list (network n) = refl
 handed-list (failure k) = refl
-
-no-end : {a : Outcome} → Handed a → a ≡ End → ⊥
-no-end (network n) e = let z : _≡_ {A = ℕ} 0 1 = cc in omega arith
-no-end (failure k) e = let z : _≡_ {A = ℕ} 0 1 = cc in omega arith
 
 module _ (s : List ℕ) (h : Handle) where
   abbrev data-of : List ℕ
@@ -153,7 +149,7 @@ module _ (s : List ℕ) (h : Handle) where
             record {
               whole = whole-taken w g (r .0);
               all = out-taken w g (r .0) a e ∙ ap (λ (l : List Outcome). l ++ out (waits (taken w))) (sym (handed-list d));
-              ended = λ q. absurd (no-end d q);
+              ended = λ q. absurd (handed-only d .2 q);
             };
         passed = λ n t w c r e q g. absurd (full-passed s data-of h (newest w) (newest-full w g (r .0)) e);
         opened = λ n t w c r e q g.

@@ -20,7 +20,7 @@ use Rattle.place.specs.declared.Options.{Options}
 use Rattle.place.specs.declared.Network.{Network}
 use Rattle.place.specs.declared.Offset.the-variants.{At, None}
 use Rattle.place.specs.declared.Outcome.{Outcome}
-use Rattle.place.specs.declared.Outcome.the-variants.{Given, Failed}
+use Rattle.place.specs.declared.Outcome.the-variants.{Given, Failed, Refused, Paused, End}
 use Rattle.place.specs.declared.Turn.{Turn}
 use Rattle.place.specs.declared.Turn.the-variants.{Passed, Out, Opened}
 use Rattle.place.specs.Kinds.{isSkipped}
@@ -30,6 +30,13 @@ use Rattle.place.specs.Turns.{networkOf, unlessEmpty, endOf, turnOf}
 pub data Handed : Outcome → Type 0 where
   network : (n : Network) → Handed (Given n)
   failure : (k : ℕ) → Handed (Failed k)
+
+-- so no refusal of the walk, no Paused and no End
+pub handed-only : {a : Outcome} → Handed a → ((k : ℕ) → a ≡ Refused k → ⊥) × (a ≡ Paused → ⊥) × (a ≡ End → ⊥)
+handed-only (network n) =
+    ((λ k e. let z : _≡_ {A = ℕ} 0 1 = cc in omega arith), (λ e. let z : _≡_ {A = ℕ} 0 1 = cc in omega arith), (λ e. let z : _≡_ {A = ℕ} 0 1 = cc in omega arith))
+handed-only (failure j) =
+    ((λ k e. let z : _≡_ {A = ℕ} 0 1 = cc in omega arith), (λ e. let z : _≡_ {A = ℕ} 0 1 = cc in omega arith), (λ e. let z : _≡_ {A = ℕ} 0 1 = cc in omega arith))
 
 -- what a place can come to; only a node above full width is opened
 data Shown (nodes width : ℕ) (p : Place) : Turn → Type 0 where
