@@ -1,0 +1,3 @@
+-- What the contracts here cite.
+pub mod Digits
+pub mod Lines
