@@ -10,6 +10,10 @@ use Rattle.value.specs.declared.Value.{Value}
 use Rattle.value.specs.declared.Value.the-variants as value
 use Rattle.path.specs.declared.Step.{Step}
 use Rattle.path.specs.declared.Step.the-variants as step
+use Rattle.verify.specs.declared.Verified.{Verified}
+use Rattle.verify.specs.declared.Verified.the-variants as verified
+use Rattle.verify.specs.declared.Words.{Words}
+use Rattle.verify.specs.declared.Words.the-variants as words
 use Rattle.walk.specs.declared.Status.{Status}
 use Rattle.walk.specs.declared.Status.the-variants as status
 use Rattle.place.specs.declared.Outcome.{Outcome}
@@ -65,3 +69,13 @@ nextRefusal (outcome.Failed number) = number
 nextRefusal (outcome.Refused number) = number
 nextRefusal outcome.Paused = 0
 nextRefusal outcome.End = 0
+
+-- verification: the number of distinct offsets
+abbrev pub verifyRefusal : Verified → ℕ
+verifyRefusal (verified.Accepted offsets) = 0
+verifyRefusal (verified.Refused number) = number
+
+-- the words that it needs
+abbrev pub wordsRefusal : Words → ℕ
+wordsRefusal (words.Are count) = 0
+wordsRefusal (words.Refused number) = number

@@ -7,6 +7,7 @@ ghost use Rattle.opening.specs.Opening.{openOf, ageOf};
 ghost use Rattle.about.specs.About.{textOf};
 ghost use Rattle.about.specs.declared.Wanted.the-variants as wanted;
 ghost use Rattle.value.specs.Parts.{spanned};
+ghost use Rattle.verify.specs.Verify.{out, scratchWordsOf, verifyOf};
 ghost use Rattle.walk.specs.Starts.{beginOf};
 ghost use Rattle.walk.specs.Calls.{nextOf};
 ghost use Rattle.maxminddb.specs.Entries.{lookupOf, readOf, partOf, keyOf, indexOf};
@@ -28,6 +29,8 @@ use section::Barred;
 use section::data_section;
 use section::gate;
 use value::Value;
+use verify::Verified;
+use verify::Words;
 use walk::Called;
 use walk::Range;
 use walk::Started;
@@ -180,4 +183,18 @@ pub fn next(image: &[u8], h: Handle, w: Walk, budget: u64) -> Called
     ensures { λ r. ⌜ r ≡ nextOf (now (image .entry)) h w budget ⌝ }
 {
     walk::call::next(image, h, w, budget)
+}
+
+// How many words of scratch verification needs.
+pub fn scratch_words(image: &[u8]) -> Words
+    ensures { λ r. ⌜ r ≡ scratchWordsOf (now (image .entry)) ⌝ }
+{
+    verify::scratch_words(image)
+}
+
+// Whether the whole image is sound, after at most `budget` places of its tree; and how many distinct offsets its networks have.
+pub fn verify(image: &[u8], scratch: &mut [u64], budget: u64) -> Verified
+    ensures { λ r. ⌜ out r (now (scratch .exit)) ≡ verifyOf (now (image .entry)) (now (scratch .entry)) budget ⌝ }
+{
+    verify::verify(image, scratch, budget)
 }

@@ -1,6 +1,5 @@
 // What our functions answer to a recorded question, and whether it is what the crate answered.
 use crate::steps::arrived;
-use crate::table::Entry;
 use crate::table::KIND_ABSENT;
 use crate::table::KIND_ARRAY;
 use crate::table::KIND_BOOLEAN;
@@ -21,10 +20,11 @@ use crate::table::KIND_U128;
 use crate::table::QUESTION_EMPTY_CHECK;
 use crate::table::QUESTION_READING;
 use crate::table::QUESTION_SKIPPING;
-use crate::table::span;
 use charge::Charge;
 use key::same;
 use path::Step;
+use recorded::Entry;
+use recorded::span;
 use refusal::MALFORMED;
 use skip::Skipped;
 use skip::skip_value;

@@ -4,29 +4,22 @@ mod report;
 mod steps;
 mod table;
 
-ghost use mathlib.Core.Path.{_≡_};
-ghost use lib.ListN.{length};
 use answer::is_equal;
+use recorded::Entry;
+use recorded::Found;
+use recorded::after;
+use recorded::entry_at;
+use recorded::span;
+use recorded::tally::Tally;
+use recorded::tally::nothing_yet;
+use recorded::tally::with_row;
+use recorded::zeros;
 use report::AFTER_STEPS;
-use report::Tally;
-use report::nothing_yet;
 use report::print_tally;
-use report::with_row;
-use table::Entry;
-use table::Found;
 use table::QUESTION_SECTION;
-use table::after;
-use table::entry_at;
-use table::span;
 
 // Zeros before the table, over which its first section reaches back: a pointer of class 2 leads no nearer than this.
 const LEAD: usize = 526336;
-
-fn zeros() -> [u8; 1310720]
-    ensures { λ r. ⌜ 1310720 ≡ length r ⌝ }
-{
-    [0; 1310720]
-}
 
 fn read_table(table: &mut [u8]) -> usize {
     if LEAD <= table.len() {

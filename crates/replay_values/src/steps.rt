@@ -1,12 +1,12 @@
 // The steps of a recorded path, taken one after the other.
-use crate::table::after;
-use crate::table::number_at;
-use crate::table::span;
 use charge::Charge;
 use path::Cursor;
 use path::Step;
 use path::step_index;
 use path::step_key;
+use recorded::after;
+use recorded::number_at;
+use recorded::span;
 
 const STEP_KEY: u64 = 0;
 

@@ -148,7 +148,7 @@ pub fn verify(image: &[u8], scratch: &mut [u64], budget: u64) -> Verified
             }
             clear(scratch, need);
             let verified = verdict(image, reader, &mut scratch[..need], budget);
-            clear(scratch, need);
+            clear(scratch, need); // also after a refusal
             verified
         }
         Opened::Refused(number) => Verified::Refused(number),

@@ -23,7 +23,7 @@ shared-slice-read-if1 : tie.Need-shared-slice-read-if1 Inv-loop μ-loop
 shared-slice-read-if1 c = omega (arith, c .before .before .loop .inv .0, c .before .before .before .pre)
 
 returns : tie.Need-returns Inv-loop μ-loop
-returns c = sym (zero-stop (c .before .before .before .before .args .image .now) (c .before .before .before .before .args .base) (c .before .before .before .loop .left) (c .before .before .loop-test .taken) (omega (arith, c .before .before .before .loop .inv .0, c .before .before .before .before .pre)) (c .before .before .before .before .pre .1) (c .if1 .taken)) ∙ c .before .before .before .loop .inv .1
+returns c = sym (zero-stop (c .before .before .before .before .args .image .now) (c .before .before .before .before .args .base) (c .before .before .before .loop .left) (omega (arith, c .before .before .loop-test .taken)) (omega (arith, c .before .before .before .loop .inv .0, c .before .before .before .before .pre)) (c .before .before .before .before .pre .1) (c .if1 .taken)) ∙ c .before .before .before .loop .inv .1
 
 sub-left : tie.Need-sub-left Inv-loop μ-loop
 sub-left c = omega arith
@@ -32,7 +32,7 @@ loop-less : tie.Need-loop-less Inv-loop μ-loop
 loop-less c = omega arith
 
 loop-again : tie.Need-loop-again Inv-loop μ-loop
-loop-again c = (omega (arith, c .before .before .before .loop .inv .0), zero-on (c .before .before .before .before .args .image .now) (c .before .before .before .before .args .base) (c .before .before .before .loop .left) (c .before .before .loop-test .taken) (omega (arith, c .before .before .before .loop .inv .0, c .before .before .before .before .pre)) (c .before .before .before .before .pre .1) (c .if1 .left) ∙ c .before .before .before .loop .inv .1)
+loop-again c = (omega (arith, c .before .before .before .loop .inv .0), zero-on (c .before .before .before .before .args .image .now) (c .before .before .before .before .args .base) (c .before .before .before .loop .left) (omega (arith, c .before .before .loop-test .taken)) (omega (arith, c .before .before .before .loop .inv .0, c .before .before .before .before .pre)) (c .before .before .before .before .pre .1) (c .if1 .left) ∙ c .before .before .before .loop .inv .1)
 
 returns-2 : tie.Need-returns-2 Inv-loop μ-loop
 returns-2 c = sym (zero-end (c .before .before .args .image .now) (c .before .before .args .base - c .before .loop .left) (c .before .loop .left) (omega (arith, c .loop-test .left))) ∙ c .before .loop .inv .1
