@@ -56,7 +56,7 @@ same-length : tie.Need-same-length Inv-loop μ-loop
 same-length c = search needs
 
 returns : tie.Need-returns Inv-loop μ-loop
-returns c = rw (c .before .before .before .mark .ensures) (tour-over (c .before .before .before .before .before .before .before .before .before .before .before .before .before .before .before .before .before .args .image .now) (c .before .before .before .before .before .before .before .before .before .before .before .before .before .before .before .before .before .args .h) (c .before .before .before .before .before .before .before .before .before .before .loop .left) (c .before .before .before .before .before .before .before .before .before .before .loop .walk) (c .before .before .before .before .before .before .before .before .before .before .loop .bits) _ (replied (c .before .before .before .before .before .before .before .before) _ (c .before .before .before .before .before .before .offset .given .1)) (c .before .before .before .before .before .before .before .before .before .before .loop .more) (c .if1 .taken) ∙ c .before .before .before .before .before .before .before .before .before .before .loop .inv .1)
+returns c = rw (c .before .before .before .mark .ensures) (tour-over (c .before .before .before .before .before .before .before .before .before .before .before .before .before .before .before .before .before .args .image .now) (c .before .before .before .before .before .before .before .before .before .before .before .before .before .before .before .before .before .args .h) (c .before .before .before .before .before .before .before .before .before .before .loop .left) (c .before .before .before .before .before .before .before .before .before .before .loop .walk) (c .before .before .before .before .before .before .before .before .before .before .loop .bits) _ (replied (c .before .before .before .before .before .before .before .before) _ (c .before .before .before .before .before .before .offset .given .1)) (c .before .before .before .before .before .before .before .before .before .before .loop .more) (omega arith) ∙ c .before .before .before .before .before .before .before .before .before .before .loop .inv .1)
 
 sub-left : tie.Need-sub-left Inv-loop μ-loop
 sub-left c = omega (arith, ap (λ (k : Called). k .taken) (c .before .before .before .before .before .before .before .before .before .before .before .next .ensures), within-budget (c .before .before .before .before .before .before .before .before .before .before .before .before .before .before .before .before .before .before .before .args .image .now) (c .before .before .before .before .before .before .before .before .before .before .before .before .before .before .before .before .before .before .before .args .h) (c .before .before .before .before .before .before .before .before .before .before .before .before .loop .walk) (c .before .before .before .before .before .before .before .before .before .before .before .before .loop .left))
@@ -70,7 +70,7 @@ loop-less c = search needs
 loop-again : tie.Need-loop-again Inv-loop μ-loop
 loop-again c = (
   ap length (c .before .before .before .before .before .mark .ensures) ∙ length-each _ _ ∙ c .before .before .before .before .before .before .before .before .before .before .before .before .loop .inv .0,
-  rw (c .before .before .before .before .before .mark .ensures, c .before .before .before .before .before .before .before .before .before .before .before .next .ensures) (tour-on (c .before .before .before .before .before .before .before .before .before .before .before .before .before .before .before .before .before .before .before .args .image .now) (c .before .before .before .before .before .before .before .before .before .before .before .before .before .before .before .before .before .before .before .args .h) (c .before .before .before .before .before .before .before .before .before .before .before .before .loop .left) (c .before .before .before .before .before .before .before .before .before .before .before .before .loop .walk) (c .before .before .before .before .before .before .before .before .before .before .before .before .loop .bits) _ (replied (c .before .before .before .before .before .before .before .before .before .before) _ (c .before .before .before .before .before .before .before .before .offset .given .1)) (c .before .before .before .before .before .before .before .before .before .before .before .before .loop .more) (c .before .before .if1 .left) ∙ c .before .before .before .before .before .before .before .before .before .before .before .before .loop .inv .1),
+  rw (c .before .before .before .before .before .mark .ensures, c .before .before .before .before .before .before .before .before .before .before .before .next .ensures) (tour-on (c .before .before .before .before .before .before .before .before .before .before .before .before .before .before .before .before .before .before .before .args .image .now) (c .before .before .before .before .before .before .before .before .before .before .before .before .before .before .before .before .before .before .before .args .h) (c .before .before .before .before .before .before .before .before .before .before .before .before .loop .left) (c .before .before .before .before .before .before .before .before .before .before .before .before .loop .walk) (c .before .before .before .before .before .before .before .before .before .before .before .before .loop .bits) _ (replied (c .before .before .before .before .before .before .before .before .before .before) _ (c .before .before .before .before .before .before .before .before .offset .given .1)) (c .before .before .before .before .before .before .before .before .before .before .before .before .loop .more) (λ e. omega arith) ∙ c .before .before .before .before .before .before .before .before .before .before .before .before .loop .inv .1),
 )
 
 enum-known-recorded : tie.Need-enum-known-recorded Inv-loop μ-loop
