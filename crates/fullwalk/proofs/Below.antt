@@ -1,38 +1,25 @@
--- What is below the waiting places of a walk of everything, and what taking one does to it.
+-- The ends of the ways from a block's place are the tree's networks below it.
 use Prim.Native.Nat.{ℕ, zero, suc, _+_, _-_, _*_, _^_, _<_, _≤_}
 use mathlib.Core.Path.{_≡_, refl, ap, sym, _∙_}
+use mathlib.Core.Bool.{Bool, _||_}
 use mathlib.Core.Logic.{⊎-elim}
-use mathlib.Core.List.{List, [], _∷_, _++_}
+use mathlib.Core.List.{List, [], _∷_, _++_, map, map-append}
 use native.Mathlib.Nat.{mul-div-cancel, pow-suc, mul-assoc, mul-comm, add-mul, one-mul}
-use native.Mathlib.Numerals.{add-one}
 use native.Mathlib.Omega.{arith}
-use lib.ListN.{length, getD, set}
-use lib.Seq.{getD-set-same, getD-set-other}
 use lib.Bits.{bitOr, or-shifted}
 use lib.Pow.{pow-pos, pow-lt}
 use borrow.Author.Tests.{lt-ltb, le-ltb}
 use Rattle.number.specs.Keys.{numberOf, maskedTo}
 use Rattle.handle.specs.declared.Handle.{Handle}
 use Rattle.tree.specs.Record.{recordAt}
-use Rattle.tree.specs.Lookup.{answerOf}
-use Rattle.tree.specs.declared.Answer.{Answer}
-use Rattle.tree.specs.declared.Answer.the-variants.{Found, NotFound, Invalid}
 use Rattle.tiles.specs.Tiles.{Tile, tile, leaves}
 use Rattle.tiles.proofs.TileLaws.{side}
-use Rattle.place.specs.Kinds.{kindOf}
-use Rattle.place.specs.Turns.{childKey, childOf, networkOf, endOf, turnOf}
+use Rattle.place.specs.Kinds.{isAlias}
+use Rattle.place.specs.Turns.{childKey, childOf}
 use Rattle.place.specs.declared.Place.{Place}
-use Rattle.place.specs.declared.Network.{Network}
-use Rattle.place.specs.declared.Offset.{Offset}
-use Rattle.place.specs.declared.Offset.the-variants.{At, None}
-use Rattle.place.specs.declared.Outcome.{Outcome}
-use Rattle.place.specs.declared.Outcome.the-variants.{Given}
-use Rattle.place.specs.declared.Turn.{Turn}
-use Rattle.place.specs.declared.Turn.the-variants.{Passed, Out, Opened}
-use Rattle.walk.specs.declared.Walk.{Walk}
-use Rattle.walk.specs.Walks.{none, newest, taken, added}
 use Rattle.carried.proofs.InShape.{number-key}
-use Rattle.fullwalk.specs.FullWalk.{widthOf, everything, networkFor, shown, outcomeOf}
+use Rattle.fullwalk.specs.Ends.{End, endsBelow, tileAt}
+use Rattle.fullwalk.proofs.EndLaws.{ends-here, ends-deep, ends-branch}
 
 -- a place whose key is that of a whole block of addresses
 pub record Block (width : ℕ) (p : Place) : Type 0 where
@@ -43,153 +30,116 @@ pub record Block (width : ℕ) (p : Place) : Type 0 where
 pub unmasked : (width : ℕ) (p : Place) → Block width p → maskedTo (numberOf (p .key)) width (p .len) ≡ numberOf (p .key)
 unmasked width p b = rw (b .key) (ap (λ (n : ℕ). n * 2 ^ (width - p .len)) (mul-div-cancel (b .index) (pow-pos (width - p .len))))
 
+-- the networks below a record: one at a terminal, a node's are those below its two
 module _ (s : List ℕ) (size nodes : ℕ) where
-  -- the networks below a place
-  abbrev pub under : ℕ → Place → List Tile
-  under width p = leaves s size nodes (width - p .len) (p .value) (numberOf (p .key))
-
-  -- below the first n places, the newest first
-  unfoldable pub below : ℕ → List Place → ℕ → List Tile
-  below width ps zero = []
-  below width ps (suc n) = under width (getD ps n none) ++ below width ps n
-
-  abbrev pub awaited : Walk → List Tile
-  awaited w = below (w .width) (w .places) (w .count)
-
-  -- a place above those that wait changes nothing of them
-  below-set : (width : ℕ) (ps : List Place) (i : ℕ) (p : Place) (n : ℕ) → n ≤ i → below width (set ps i p) n ≡ below width ps n
-  unfolding below
-  below-set width ps i p zero h = refl
-  below-set width ps i p (suc n) h =
-      let ne : n ≡ i → ⊥ = λ e. omega arith in
-      rw (getD-set-other ps i n p none ne, below-set width ps i p n (omega arith))
-
-  pub below-added : (w : Walk) (p : Place) → w .count < length (w .places) → awaited (added w p) ≡ under (w .width) p ++ awaited w
-  unfolding below
-  below-added w p h =
-      rw (add-one (w .count), getD-set-same (w .places) (w .count) p none h, below-set (w .width) (w .places) (w .count) p (w .count) (omega arith))
-
-  pub below-taken : (w : Walk) → 0 < w .count → awaited w ≡ under (w .width) (newest w) ++ awaited (taken w)
-  unfolding below
-  below-taken w h =
-      let e : w .count ≡ suc (w .count - 1) = omega arith in
-      ap (below (w .width) (w .places)) e
-      ∙ ap (λ (l : List Tile). under (w .width) (newest w) ++ l) (sym (below-set (w .width) (w .places) (w .count - 1) none (w .count - 1) (omega arith)))
-
-  leaf : (d v k : ℕ) → nodes ≤ v → leaves s size nodes d v k ≡ tile k d v ∷ []
+  pub leaf : (d v k : ℕ) → nodes ≤ v → leaves s size nodes d v k ≡ tile k d v ∷ []
   unfolding leaves
   leaf zero v k h = refl
   leaf (suc d) v k h = simp (le-ltb _ _ h)
 
-  deep : (d v k : ℕ) → d ≡ 0 → leaves s size nodes d v k ≡ tile k d v ∷ []
-  unfolding leaves
-  deep d v k e = rw e
-
-  branch :
+  pub branch :
       (d v k : ℕ) → v < nodes
       → leaves s size nodes (suc d) v k ≡ leaves s size nodes d (recordAt s size v 0) k ++ leaves s size nodes d (recordAt s size v 1) (k + 2 ^ d)
   unfolding leaves
   branch d v k h = simp (lt-ltb _ _ h)
 
-  -- the children of a node with a bit left
-  module _ (width : ℕ) (p : Place) (b : Block width p) (short : p .len < width) where
-    abbrev left-of : ℕ
-    left-of = width - (p .len + 1)
+-- the children of a block with a bit left
+module _ (s : List ℕ) (size width : ℕ) (p : Place) (b : Block width p) (short : p .len < width) where
+  abbrev left-of : ℕ
+  left-of = width - (p .len + 1)
 
-    one-less : width - p .len ≡ suc left-of
-    one-less = omega arith
+  one-less : width - p .len ≡ suc left-of
+  one-less = omega arith
 
-    bit-set : bitOr (numberOf (p .key)) (2 ^ left-of) ≡ numberOf (p .key) + 2 ^ left-of
-    bit-set =
-        let e : numberOf (p .key) ≡ b .index * 2 ^ suc left-of = b .key ∙ ap (λ (n : ℕ). b .index * 2 ^ n) one-less in
-        rw e (or-shifted (b .index) (suc left-of) (2 ^ left-of) (pow-lt (omega arith)))
+  bit-set : bitOr (numberOf (p .key)) (2 ^ left-of) ≡ numberOf (p .key) + 2 ^ left-of
+  bit-set =
+      let e : numberOf (p .key) ≡ b .index * 2 ^ suc left-of = b .key ∙ ap (λ (n : ℕ). b .index * 2 ^ n) one-less in
+      rw e (or-shifted (b .index) (suc left-of) (2 ^ left-of) (pow-lt (omega arith)))
 
-    right-key : numberOf (childKey (p .key) width (p .len) 1) ≡ numberOf (p .key) + 2 ^ left-of
+  pub right-key : numberOf (childKey (p .key) width (p .len) 1) ≡ numberOf (p .key) + 2 ^ left-of
+  unfolding childKey
+  right-key =
+      let e : width - 1 - p .len ≡ left-of = omega arith in
+      number-key _ ∙ ap (λ (n : ℕ). bitOr (numberOf (p .key)) (2 ^ n)) e ∙ bit-set
+
+  doubled : numberOf (p .key) ≡ b .index * 2 * 2 ^ left-of
+  doubled =
+      b .key ∙ ap (λ (n : ℕ). b .index * 2 ^ n) one-less ∙ ap (λ (n : ℕ). b .index * n) (pow-suc 2 left-of ∙ mul-comm (2 ^ left-of) 2)
+      ∙ sym (mul-assoc (b .index) 2 (2 ^ left-of))
+
+  pub left-block : Block width (childOf s size width p 0)
+  unfolding childKey
+  left-block = record { index = b .index * 2; key = doubled }
+
+  pub right-block : Block width (childOf s size width p 1)
+  right-block =
+      record {
+        index = b .index * 2 + 1;
+        key =
+            right-key ∙ ap (λ (n : ℕ). n + 2 ^ left-of) doubled
+            ∙ sym (add-mul (b .index * 2) 1 (2 ^ left-of) ∙ ap (λ (n : ℕ). b .index * 2 * 2 ^ left-of + n) (one-mul (2 ^ left-of)));
+      }
+
+-- something of a place that is something of its network
+module _ {A : Type 0} (s : List ℕ) (h : Handle) (width : ℕ) (I : Place → Type 0) (f : Place → A) (g : Tile → A) where
+  abbrev child : Place → ℕ → Place
+  child p bit = childOf s (h .size) width p bit
+
+  -- of all places of some kind, among them a node's children, and nodes are blocks
+  pub record Agrees : Type 0 where
+    pub block : (p : Place) → I p → p .value < h .nodes → Block width p
+    pub left : (p : Place) → I p → p .value < h .nodes → p .len < width → I (child p 0)
+    pub right : (p : Place) → I p → p .value < h .nodes → p .len < width → I (child p 1)
+    pub same : (p : Place) → I p → f p ≡ g (tileAt width p)
+
+  abbrev shown : List End → List A
+  shown = map (λ (e : End). f (e .place))
+
+  abbrev masked : Place → ℕ
+  masked p = maskedTo (numberOf (p .key)) width (p .len)
+
+  abbrev tiles : ℕ → Place → List Tile
+  tiles rest p = leaves s (h .size) (h .nodes) rest (p .value) (masked p)
+
+  module _ (k : Agrees) where
+    one-end : (rest : ℕ) (p : Place) → I p → width ≡ p .len + rest → f p ∷ [] ≡ g (tile (masked p) rest (p .value)) ∷ []
+    one-end rest p i e =
+        let r : width - p .len ≡ rest = omega arith in
+        ap (λ (a : A). a ∷ []) (k .same p i ∙ ap (λ (n : ℕ). g (tile (masked p) n (p .value))) r)
+
+    -- the networks below a node are those below its children
+    tiles-branch : (rest : ℕ) (p : Place) → I p → width ≡ p .len + suc rest → p .value < h .nodes → tiles (suc rest) p ≡ tiles rest (child p 0) ++ tiles rest (child p 1)
     unfolding childKey
-    right-key =
-        let e : width - 1 - p .len ≡ left-of = omega arith in
-        number-key _ ∙ ap (λ (n : ℕ). bitOr (numberOf (p .key)) (2 ^ n)) e ∙ bit-set
+    tiles-branch rest p i e v =
+        let l : p .len < width = omega arith in
+        let b = k .block p i v in
+        let r : width - (p .len + 1) ≡ rest = omega arith in
+        let t : ℕ → ℕ → List Tile = λ x y.
+        leaves s (h .size) (h .nodes) rest (recordAt s (h .size) (p .value) 0) x ++ leaves s (h .size) (h .nodes) rest (recordAt s (h .size) (p .value) 1) y
+        in
+        let x : masked p ≡ masked (child p 0) = unmasked width p b ∙ sym (unmasked width (child p 0) (left-block s (h .size) width p b l)) in
+        let y : masked p + 2 ^ rest ≡ masked (child p 1) =
+        ap (λ (n : ℕ). n + 2 ^ rest) (unmasked width p b) ∙ ap (λ (n : ℕ). numberOf (p .key) + 2 ^ n) (sym r)
+        ∙ sym (unmasked width (child p 1) (right-block s (h .size) width p b l) ∙ right-key s (h .size) width p b l)
+        in
+        branch s (h .size) (h .nodes) rest (p .value) (masked p) v ∙ ap (λ (n : ℕ). t n (masked p + 2 ^ rest)) x ∙ ap (t (masked (child p 0))) y
 
-    doubled : numberOf (p .key) ≡ b .index * 2 * 2 ^ left-of
-    doubled =
-        b .key ∙ ap (λ (n : ℕ). b .index * 2 ^ n) one-less ∙ ap (λ (n : ℕ). b .index * n) (pow-suc 2 left-of ∙ mul-comm (2 ^ left-of) 2)
-        ∙ sym (mul-assoc (b .index) 2 (2 ^ left-of))
-
-    pub left-block : Block width (childOf s size width p 0)
-    unfolding childKey
-    left-block = record { index = b .index * 2; key = doubled }
-
-    pub right-block : Block width (childOf s size width p 1)
-    right-block =
-        record {
-          index = b .index * 2 + 1;
-          key =
-              right-key ∙ ap (λ (n : ℕ). n + 2 ^ left-of) doubled
-              ∙ sym (add-mul (b .index * 2) 1 (2 ^ left-of) ∙ ap (λ (n : ℕ). b .index * 2 * 2 ^ left-of + n) (one-mul (2 ^ left-of)));
-        }
-
-    -- what is below a node is below its children
-    pub under-opened : p .value < nodes → under width p ≡ under width (childOf s size width p 0) ++ under width (childOf s size width p 1)
-    unfolding childKey
-    under-opened h =
-        ap (λ (n : ℕ). leaves s size nodes n (p .value) (numberOf (p .key))) one-less
-        ∙ branch left-of (p .value) (numberOf (p .key)) h
-        ∙ ap (λ (n : ℕ). leaves s size nodes left-of (recordAt s size (p .value) 0) (numberOf (p .key)) ++ leaves s size nodes left-of (recordAt s size (p .value) 1) n)
-        (sym right-key)
-
--- the tile of a place
-abbrev pub tileOf : ℕ → Place → Tile
-tileOf width p = tile (numberOf (p .key)) (width - p .len) (p .value)
-
-module _ (s d : List ℕ) (h : Handle) (p : Place) where
-  -- nothing is passed over: a place is opened, or it is one network and is handed out
-  pub data Full : Turn → Type 0 where
-    node : p .value < h .nodes → p .len < widthOf h → Full Opened
-    one : under s (h .size) (h .nodes) (widthOf h) p ≡ tileOf (widthOf h) p ∷ [] → Full (Out (outcomeOf h (length d) (tileOf (widthOf h) p)))
-
-  pub full-passed : {t : Turn} → Full t → t ≡ Passed → ⊥
-  full-passed (node v l) e = let z : _≡_ {A = ℕ} 0 1 = cc in omega arith
-  full-passed (one u) e = let z : _≡_ {A = ℕ} 0 1 = cc in omega arith
-
-  pub full-out :
-      {t : Turn} (a : Outcome) → Full t → t ≡ Out a
-      → (under s (h .size) (h .nodes) (widthOf h) p ≡ tileOf (widthOf h) p ∷ []) × (a ≡ outcomeOf h (length d) (tileOf (widthOf h) p))
-  full-out a (node v l) e = let z : _≡_ {A = ℕ} 0 1 = cc in absurd (omega arith)
-  full-out a (one u) e = (u, cc)
-
-module _ (s d : List ℕ) (h : Handle) (p : Place) (b : Block (widthOf h) p) (long : p .len ≤ widthOf h) where
-  whole-length : widthOf h - (widthOf h - p .len) ≡ p .len
-  whole-length = omega arith
-
-  -- its network, as the walk gives it
-  network-same : (o : Offset) → networkOf h (widthOf h) p o ≡ networkFor h (length d) (tileOf (widthOf h) p) o
-  unfolding kindOf
-  network-same o = rw (unmasked (widthOf h) p b, whole-length, number-key (numberOf (p .key)))
-
-  end-same : (a : Answer) → endOf d h everything (widthOf h) p a ≡ Out (shown h (length d) (tileOf (widthOf h) p) a)
-  end-same (Found offset len) = ap (λ (n : Network). Out (Given n)) (network-same (At offset))
-  end-same (NotFound len) = ap (λ (n : Network). Out (Given n)) (network-same None)
-  end-same Invalid = refl
-
-  out-deep : p .value < h .nodes → widthOf h ≤ p .len → turnOf d h everything (widthOf h) p ≡ Out (outcomeOf h (length d) (tileOf (widthOf h) p))
-  unfolding turnOf
-  out-deep v l = simp (lt-ltb _ _ v, le-ltb _ _ l)
-
-  out-end : h .nodes ≤ p .value → turnOf d h everything (widthOf h) p ≡ Out (outcomeOf h (length d) (tileOf (widthOf h) p))
-  unfolding turnOf
-  out-end v = simp (le-ltb _ _ v, whole-length) (end-same (answerOf (h .nodes) (length d) (p .value) (p .len)))
-
-  in-node : p .value < h .nodes → p .len < widthOf h → turnOf d h everything (widthOf h) p ≡ Opened
-  unfolding turnOf
-  in-node v l = simp (lt-ltb _ _ v, lt-ltb _ _ l)
-
-  pub full : Full s d h p (turnOf d h everything (widthOf h) p)
-  full =
-      ⊎-elim
-      (λ v.
-      ⊎-elim
-      (λ l. rw (in-node v l) (node v l))
-      (λ l. rw (out-deep v l) (one (deep s (h .size) (h .nodes) (widthOf h - p .len) (p .value) (numberOf (p .key)) (omega arith))))
-      (side (p .len) (widthOf h)))
-      (λ v. rw (out-end v) (one (leaf s (h .size) (h .nodes) (widthOf h - p .len) (p .value) (numberOf (p .key)) v)))
-      (side (p .value) (h .nodes))
+    pub ends-tiles : (rest : ℕ) (met : Bool) (p : Place) → I p → width ≡ p .len + rest → shown (endsBelow s h width rest met p) ≡ map g (tiles rest p)
+    unfolding leaves
+    ends-tiles zero met p i e = ap shown (ends-deep s h width 0 met p refl) ∙ one-end 0 p i e
+    ends-tiles (suc rest) met p i e =
+        ⊎-elim
+        (λ v.
+        let m = met || isAlias h width p in
+        let l : p .len < width = omega arith in
+        let a : List End = endsBelow s h width rest m (child p 0) in
+        let b : List End = endsBelow s h width rest m (child p 1) in
+        ap shown (ends-branch s h width rest met p v)
+        ∙ map-append (λ (e : End). f (e .place)) a b
+        ∙ ap (λ (x : List A). x ++ shown b) (ends-tiles rest m (child p 0) (k .left p i v l) (omega arith))
+        ∙ ap (λ (x : List A). map g (tiles rest (child p 0)) ++ x) (ends-tiles rest m (child p 1) (k .right p i v l) (omega arith))
+        ∙ sym (ap (map g) (tiles-branch rest p i e v) ∙ map-append g (tiles rest (child p 0)) (tiles rest (child p 1))))
+        (λ v.
+        ap shown (ends-here s h width (suc rest) met p v) ∙ one-end (suc rest) p i e
+        ∙ sym (ap (map g) (leaf s (h .size) (h .nodes) (suc rest) (p .value) (masked p) v)))
+        (side (p .value) (h .nodes))

@@ -1,17 +1,17 @@
 -- What a full walk hands out: errors exactly where paths are faulty, else the networks of all addresses.
-use Prim.Native.Nat.{ℕ, _+_, _-_, _^_}
+use Prim.Native.Nat.{ℕ, _-_, _^_}
 use mathlib.Core.Path.{_≡_, refl, ap, _∙_}
 use mathlib.Core.Bool.{Bool, true, false, cond}
 use mathlib.Core.Logic.{inl, inr}
 use mathlib.Core.List.{List, map}
 use native.Mathlib.Omega.{arith}
 use lib.ListN.{length}
-use lib.Dec.{leb, ltb}
+use lib.Dec.{ltb}
 use borrow.Author.Tests.{lt-ltb, ltb-true}
 use Rattle.refusal.specs.Refusals.{tooDeep}
 use Rattle.handle.specs.declared.Handle.{Handle}
 use Rattle.handle.specs.Handle.{fitsOf}
-use Rattle.tree.specs.Lookup.{offsetOf, answerOf}
+use Rattle.tree.specs.Lookup.{answerOf}
 use Rattle.tree.specs.declared.Answer.{Answer}
 use Rattle.tree.specs.declared.Answer.the-variants.{Found, NotFound, Invalid}
 use Rattle.tree.proofs.AnswerLaws.{answer-found}
@@ -25,19 +25,8 @@ use Rattle.place.specs.declared.Outcome.the-variants.{Given, Failed}
 use Rattle.walk.specs.Calls.{dataSection}
 use Rattle.carried.proofs.InShape.{number-key}
 use Rattle.fullwalk.specs.FullWalk.{widthOf, fullWalk, Walked, Error, lengthOf, networkFor, shown, outcomeOf, offsetIn, Covers, Precedes, toldBy, lookup, Clean, Answers}
+use Rattle.fullwalk.proofs.EndLaws.{answer-nothing}
 use Rattle.fullwalk.proofs.FullWalkLaws.{whole-tree}
-
--- an answer has the length that it was given
-found-nothing : (nodes room node len l : ℕ) → answerOf nodes room node len ≡ NotFound l → l ≡ len
-unfolding answerOf
-found-nothing nodes room node len l =
-    by (leb node nodes) (ltb node (nodes + 16)) (ltb (offsetOf nodes node) room)
-  where
-    by : (a b c : Bool) → cond a (NotFound len) (cond b Invalid (cond c (Found (offsetOf nodes node) len) Invalid)) ≡ NotFound l → l ≡ len
-    by true b c e = cc
-    by false true c e = let z : _≡_ {A = ℕ} 0 1 = cc in absurd (omega arith)
-    by false false true e = let z : _≡_ {A = ℕ} 0 1 = cc in absurd (omega arith)
-    by false false false e = let z : _≡_ {A = ℕ} 0 1 = cc in absurd (omega arith)
 
 module _ (s : List ℕ) (h : Handle) where
   abbrev room : ℕ
@@ -100,7 +89,7 @@ module _ (s : List ℕ) (h : Handle) where
     where
       end : (a : Answer) → ended t ≡ a → a ≡ toldBy (lengthOf h room t) (offsetIn a)
       end (Found o l) e = ap (Found o) (answer-found (h .nodes) room (lengthOf h room t) (t .node) o l e .2)
-      end (NotFound l) e = ap NotFound (found-nothing (h .nodes) room (t .node) (lengthOf h room t) l e)
+      end (NotFound l) e = ap NotFound (answer-nothing (h .nodes) room (t .node) (lengthOf h room t) l e .1)
       end Invalid e = absurd (g .1 (inr e))
 
   rest : (t : Tile) → Good t → widthOf h - net t .len ≡ t .rest

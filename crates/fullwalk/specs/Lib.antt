@@ -1,2 +1,3 @@
 -- The definitions that the theorems speak of.
+pub mod Ends
 pub mod FullWalk

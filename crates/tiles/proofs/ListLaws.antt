@@ -1,8 +1,9 @@
--- Laws of every one, some one, and exactly one of a list.
-use mathlib.Core.Path.{_≡_, refl}
+-- Laws of every one, some one, and exactly one of a list, and of those that a test picks.
+use mathlib.Core.Path.{_≡_, refl, ap}
+use mathlib.Core.Bool.{Bool, true, false, cond}
 use mathlib.Core.Logic.{inl, inr, ⊎-elim}
 use mathlib.Core.List.{List, [], _∷_, _++_, map}
-use Rattle.tiles.specs.Lists.{All, Some, Once, Ordered}
+use Rattle.tiles.specs.Lists.{All, Some, Once, Ordered, only}
 
 module _ {A : Type 0} where
   pub all-append : (P : A → Type 0) (l m : List A) → All P l → All P m → All P (l ++ m)
@@ -14,6 +15,11 @@ module _ {A : Type 0} where
   unfolding All
   all-map P Q f [] h = h
   all-map P Q f (a ∷ l) h = (f a (h .0), all-map P Q f l (h .1))
+
+  pub all-each : (P : A → Type 0) → ((a : A) → P a) → (l : List A) → All P l
+  unfolding All
+  all-each P f [] = tt
+  all-each P f (a ∷ l) = (f a, all-each P f l)
 
   -- what holds of every one, of the one singled out
   pub some-all : (P Q R : A → Type 0) → ((a : A) → P a → Q a → R a) → (l : List A) → All P l → Some Q l → Some R l
@@ -40,6 +46,26 @@ module _ {A : Type 0} where
   unfolding All
   all-both P Q [] h k = h
   all-both P Q (a ∷ l) h k = ((h .0, k .0), all-both P Q l (h .1) (k .1))
+
+  -- those that a test picks
+  pub only-append : (f : A → Bool) (l m : List A) → only f (l ++ m) ≡ only f l ++ only f m
+  unfolding only
+  only-append f [] m = refl
+  only-append f (a ∷ l) m = by (f a) (only-append f l m)
+    where
+      by : (b : Bool) → only f (l ++ m) ≡ only f l ++ only f m → cond b (a ∷ only f (l ++ m)) (only f (l ++ m)) ≡ cond b (a ∷ only f l) (only f l) ++ only f m
+      by true e = ap (λ (k : List A). a ∷ k) e
+      by false e = e
+
+  pub only-all : (f : A → Bool) (l : List A) → All (λ a. f a ≡ true) l → only f l ≡ l
+  unfolding All only
+  only-all f [] h = refl
+  only-all f (a ∷ l) h = rw (h .0, only-all f l (h .1))
+
+  pub only-none : (f : A → Bool) (l : List A) → All (λ a. f a ≡ false) l → only f l ≡ []
+  unfolding All only
+  only-none f [] h = refl
+  only-none f (a ∷ l) h = rw (h .0, only-none f l (h .1))
 
 -- through a map
 module _ {A B : Type 0} (f : A → B) where

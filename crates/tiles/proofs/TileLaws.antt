@@ -32,11 +32,22 @@ tiling-append a b e [] m h k = rw h k
 tiling-append a b e (t ∷ l) m h k = (h .0, tiling-append (a + 2 ^ t .rest) b e l m (h .1) k)
 
 -- all lie past the start
-past : (a e : ℕ) (l : List Tile) → Tiling a l e → All (λ t. a ≤ t .key) l
+pub past : (a e : ℕ) (l : List Tile) → Tiling a l e → All (λ t. a ≤ t .key) l
 unfolding Tiling All
 past a e [] h = tt
 past a e (t ∷ l) h =
     (omega (arith, h .0), all-map (λ u. a + 2 ^ t .rest ≤ u .key) (λ u. a ≤ u .key) (λ u g. omega arith) l (past (a + 2 ^ t .rest) e l (h .1)))
+
+-- and end before the end
+tiling-le : (a e : ℕ) (l : List Tile) → Tiling a l e → a ≤ e
+unfolding Tiling
+tiling-le a e [] h = omega (arith, h)
+tiling-le a e (t ∷ l) h = omega (arith, tiling-le (a + 2 ^ t .rest) e l (h .1))
+
+pub upto : (a e : ℕ) (l : List Tile) → Tiling a l e → All (λ t. t .key + 2 ^ t .rest ≤ e) l
+unfolding Tiling All
+upto a e [] h = tt
+upto a e (t ∷ l) h = (omega (arith, h .0, tiling-le (a + 2 ^ t .rest) e l (h .1)), upto (a + 2 ^ t .rest) e l (h .1))
 
 -- so they ascend
 pub ascend : (a e : ℕ) (l : List Tile) → Tiling a l e → Ordered Before l
@@ -60,19 +71,19 @@ by-case P true x y h k = h
 by-case P false x y h k = k
 
 -- halves of a block
-twice : (q d : ℕ) → q * 2 ^ suc d ≡ q * 2 * 2 ^ d
+pub twice : (q d : ℕ) → q * 2 ^ suc d ≡ q * 2 * 2 ^ d
 twice q d = ap (λ (n : ℕ). q * n) (pow-suc 2 d ∙ mul-comm (2 ^ d) 2) ∙ sym (mul-assoc q 2 (2 ^ d))
 
-one-more : (m n : ℕ) → (m + 1) * n ≡ m * n + n
+pub one-more : (m n : ℕ) → (m + 1) * n ≡ m * n + n
 one-more m n = add-mul m 1 n ∙ ap (λ (k : ℕ). m * n + k) (one-mul n)
 
 -- the bit of an address in the left half, and in the right
-bit-left : (q d x : ℕ) → q * 2 ^ suc d ≤ x → x < q * 2 ^ suc d + 2 ^ d → x / 2 ^ d % 2 ≡ 0
+pub bit-left : (q d x : ℕ) → q * 2 ^ suc d ≤ x → x < q * 2 ^ suc d + 2 ^ d → x / 2 ^ d % 2 ≡ 0
 bit-left q d x h k =
     ap (λ (n : ℕ). n % 2) (div-eq-of-lt-le {k = q * 2} (2 ^ d) (omega (arith, twice q d)) (omega (arith, twice q d, one-more (q * 2) (2 ^ d))))
     ∙ mul-mod-left q 2
 
-bit-right : (q d x : ℕ) → q * 2 ^ suc d + 2 ^ d ≤ x → x < q * 2 ^ suc d + 2 ^ d + 2 ^ d → x / 2 ^ d % 2 ≡ 1
+pub bit-right : (q d x : ℕ) → q * 2 ^ suc d + 2 ^ d ≤ x → x < q * 2 ^ suc d + 2 ^ d + 2 ^ d → x / 2 ^ d % 2 ≡ 1
 bit-right q d x h k =
     let z : (q * 2 + 1) % 2 ≡ 1 = omega arith in
     let f = one-more (q * 2) (2 ^ d) in

@@ -1,4 +1,5 @@
--- Every one, some one, and exactly one of a list.
+-- Every one, some one, and exactly one of a list; those that a test picks.
+use mathlib.Core.Bool.{Bool, cond}
 use mathlib.Core.Logic.{_⊎_}
 use mathlib.Core.List.{List, [], _∷_}
 
@@ -18,3 +19,8 @@ Once P (a ∷ l) = (P a × All (λ b. P b → ⊥) l) ⊎ ((P a → ⊥) × Once
 unfoldable pub Ordered : {A : Type 0} → (A → A → Type 0) → List A → Type 0
 Ordered R [] = Unit
 Ordered R (a ∷ l) = All (R a) l × Ordered R l
+
+-- those of which a test holds, in their order
+unfoldable pub only : {A : Type 0} → (A → Bool) → List A → List A
+only f [] = []
+only f (a ∷ l) = cond (f a) (a ∷ only f l) (only f l)

@@ -191,20 +191,29 @@ module _ (s : List ℕ) (size nodes addr : ℕ) (small : addr < 2 ^ 32) where
       down-bits s size nodes addr 128 0 128 0 0 0 96 0 refl top-bits ∙ ap (place (p .node)) (add-zero (p .depth))
 
   beyond-start :
-      (p : Place) → (p .node < nodes → p .depth ≡ 96)
-      → onward s size nodes addr 128 96 32 p ≡ deeper (p .depth) (down s size nodes addr 32 0 32 (p .node))
-  beyond-start p full = pick (ltb (p .node) nodes) refl
+      (left : ℕ) → left ≤ 32 → (p : Place) → (p .node < nodes → p .depth ≡ 96)
+      → onward s size nodes addr 128 96 left p ≡ deeper (p .depth) (down s size nodes addr 32 0 left (p .node))
+  beyond-start left l p full = pick (ltb (p .node) nodes) refl
     where
       pick :
           (t : Bool) → ltb (p .node) nodes ≡ t
-          → cond t (down s size nodes addr 128 96 32 (p .node)) p ≡ deeper (p .depth) (down s size nodes addr 32 0 32 (p .node))
-      pick true e = rw (full (ltb-true (p .node) nodes e)) (down-bits s size nodes addr 128 addr 32 96 0 96 32 (p .node) refl low-bits)
-      pick false e = rw (down-end s size nodes addr 32 0 32 (p .node) (ltb-false (p .node) nodes e)) (ap (place (p .node)) (sym (zero-add (p .depth))))
+          → cond t (down s size nodes addr 128 96 left (p .node)) p ≡ deeper (p .depth) (down s size nodes addr 32 0 left (p .node))
+      pick true e =
+          rw (full (ltb-true (p .node) nodes e))
+          (down-bits s size nodes addr 128 addr 32 96 0 96 left (p .node) refl (λ i h. low-bits i (omega arith)))
+      pick false e = rw (down-end s size nodes addr 32 0 left (p .node) (ltb-false (p .node) nodes e)) (ap (place (p .node)) (sym (zero-add (p .depth))))
+
+  -- as far as some of its bits lead
+  pub ipv4-way-to :
+      (left : ℕ) → left ≤ 32
+      → down s size nodes addr 128 0 (96 + left) 0
+      ≡ deeper (ipv4StartOf s size nodes .depth) (down s size nodes addr 32 0 left (ipv4StartOf s size nodes .node))
+  ipv4-way-to left l =
+      down-join s size nodes addr 128 0 96 left 0
+      ∙ ap (onward s size nodes addr 128 96 left) start
+      ∙ beyond-start left l (ipv4StartOf s size nodes) (down-internal s size nodes 0 128 0 96 0)
 
   pub ipv4-way :
       down s size nodes addr 128 0 128 0
       ≡ deeper (ipv4StartOf s size nodes .depth) (down s size nodes addr 32 0 32 (ipv4StartOf s size nodes .node))
-  ipv4-way =
-      down-join s size nodes addr 128 0 96 32 0
-      ∙ ap (onward s size nodes addr 128 96 32) start
-      ∙ beyond-start (ipv4StartOf s size nodes) (down-internal s size nodes 0 128 0 96 0)
+  ipv4-way = ipv4-way-to 32 (omega arith)
