@@ -87,6 +87,15 @@ def named(fields):
     return mapping(*[(text(name), v) for name, v in fields])
 
 
+def packed_node(size, left, right):
+    if size == 24:
+        return left.to_bytes(3, 'big') + right.to_bytes(3, 'big')
+    if size == 28:
+        shared = (left >> 24) << 4 | right >> 24
+        return (left & 0xffffff).to_bytes(3, 'big') + bytes([shared]) + (right & 0xffffff).to_bytes(3, 'big')
+    return left.to_bytes(4, 'big') + right.to_bytes(4, 'big')
+
+
 def image_of(tree, section, metadata):
     return tree + bytes(16) + section + MARKER + metadata
 
@@ -167,9 +176,37 @@ class Oracle:
                 sys.exit('the oracle says %r to %r' % (' '.join(answer), line[:200]))
         return answers
 
+    def lines(self, question):
+        """All lines of an answer: they end where the answer to another question begins."""
+        self.child.stdin.write(question + '\nversion\n')
+        self.child.stdin.flush()
+        answers = []
+        while True:
+            line = self.child.stdout.readline().rstrip('\n')
+            if line.startswith('ok maxminddb ') or line == '':
+                break
+            answers.append(line.split(' '))
+        return answers
+
 
 def unhex(s):
     return b'' if s == '-' else bytes.fromhex(s)
+
+
+# What the crate's errors say, and the refusals that stand for them; any other error of opening is refusal 2.
+OPENING_REFUSALS = (
+    ('could not find', 1), ('binary_format_major_version -', 3), ('ip_version -', 4), ('node_count -', 5), ('build_epoch -', 6),
+    ('record_size -', 7), ('beyond the metadata section', 8),
+)
+METADATA_REFUSAL = 2
+
+
+def opening_refusal(answer):
+    said = ' '.join(answer)
+    numbers = [n for part, n in OPENING_REFUSALS if part in said]
+    if len(numbers) > 1:
+        sys.exit('two refusals for %r' % said)
+    return numbers[0] if numbers else METADATA_REFUSAL
 
 
 # ---- the table ----

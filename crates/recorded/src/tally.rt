@@ -2,17 +2,17 @@
 use std::num::wrapping_add_u64;
 use std::num::wrapping_sub_u64;
 
-// One count for each question, or for each kind of answer.
-const SLOTS: usize = 19;
+// One count for each question, or for each kind of answer: as many as refusals have numbers, and 0.
+const SLOTS: usize = 25;
 
 // What was counted: rows by question, equal ones by question, and rows by the kind of answer that was recorded.
 pub struct Tally {
     pub rows: u64,
     pub different: u64,
     pub first: u64,
-    pub asked: [u64; 19],
-    pub equal: [u64; 19],
-    pub kinds: [u64; 19],
+    pub asked: [u64; 25],
+    pub equal: [u64; 25],
+    pub kinds: [u64; 25],
 }
 
 pub fn nothing_yet() -> Tally {
@@ -20,13 +20,13 @@ pub fn nothing_yet() -> Tally {
         rows: 0,
         different: 0,
         first: 0,
-        asked: [0; 19],
-        equal: [0; 19],
-        kinds: [0; 19],
+        asked: [0; 25],
+        equal: [0; 25],
+        kinds: [0; 25],
     }
 }
 
-fn counted(counts: [u64; 19], slot: usize) -> [u64; 19] {
+fn counted(counts: [u64; 25], slot: usize) -> [u64; 25] {
     let mut c = counts;
     if slot < SLOTS {
         c[slot] = wrapping_add_u64(c[slot], 1);
