@@ -1,4 +1,3 @@
--- The cases worked by hand, and what is promised.
-pub mod Worked
-pub mod WorkedValues
-pub mod WorkedImages
+-- The statements.
+pub mod Cases
+pub mod Contracts

@@ -1,5 +1,5 @@
--- The number that each answer refuses with, 0 where it answers: docs/SCOPE.md, "The refusal numbers". An answer's values stand in its case.
-use Prim.Native.Nat.{ℕ}
+-- What each answer says: that it answers, or the number that it refuses with, docs/SCOPE.md, "The refusal numbers". An answer's values stand in its case.
+use Rattle.order.specs.Order.{Verdict, Answers, Refuses, Ends, Pauses}
 use Rattle.opening.specs.declared.Opened.{Opened}
 use Rattle.opening.specs.declared.Opened.the-variants as opened
 use Rattle.opening.specs.declared.Aged.{Aged}
@@ -20,62 +20,62 @@ use Rattle.place.specs.declared.Outcome.{Outcome}
 use Rattle.place.specs.declared.Outcome.the-variants as outcome
 
 -- open: a handle and the metadata
-abbrev pub openRefusal : Opened → ℕ
-openRefusal (opened.Is reader) = 0
-openRefusal (opened.Refused number) = number
+abbrev pub openVerdict : Opened → Verdict
+openVerdict (opened.Is reader) = Answers
+openVerdict (opened.Refused number) = Refuses number
 
 -- age: a signed number of seconds
-abbrev pub ageRefusal : Aged → ℕ
-ageRefusal (aged.Is seconds) = 0
-ageRefusal (aged.Refused number) = number
+abbrev pub ageVerdict : Aged → Verdict
+ageVerdict (aged.Is seconds) = Answers
+ageVerdict (aged.Refused number) = Refuses number
 
 -- lookup: an offset and a length, or a length alone
-abbrev pub lookupRefusal : Found → ℕ
-lookupRefusal (found.Data offset len) = 0
-lookupRefusal (found.NoData len) = 0
-lookupRefusal (found.Refused number) = number
+abbrev pub lookupVerdict : Found → Verdict
+lookupVerdict (found.Data offset len) = Answers
+lookupVerdict (found.NoData len) = Answers
+lookupVerdict (found.Refused number) = Refuses number
 
 -- read: a number, a size, or the exact bits of a double or a float
-abbrev pub readRefusal : Value → ℕ
-readRefusal (value.Map pairs) = 0
-readRefusal (value.Array elements) = 0
-readRefusal (value.Text length) = 0
-readRefusal (value.Bytes length) = 0
-readRefusal (value.U16 n) = 0
-readRefusal (value.U32 n) = 0
-readRefusal (value.U64 n) = 0
-readRefusal (value.U128 high low) = 0
-readRefusal (value.I32 z) = 0
-readRefusal (value.Boolean b) = 0
-readRefusal (value.Double x bits) = 0
-readRefusal (value.Float x bits) = 0
-readRefusal (value.Refused number) = number
+abbrev pub readVerdict : Value → Verdict
+readVerdict (value.Map pairs) = Answers
+readVerdict (value.Array elements) = Answers
+readVerdict (value.Text length) = Answers
+readVerdict (value.Bytes length) = Answers
+readVerdict (value.U16 n) = Answers
+readVerdict (value.U32 n) = Answers
+readVerdict (value.U64 n) = Answers
+readVerdict (value.U128 high low) = Answers
+readVerdict (value.I32 z) = Answers
+readVerdict (value.Boolean b) = Answers
+readVerdict (value.Double x bits) = Answers
+readVerdict (value.Float x bits) = Answers
+readVerdict (value.Refused number) = Refuses number
 
 -- a step: a cursor, or absent, which is an answer
-abbrev pub stepRefusal : Step → ℕ
-stepRefusal (step.At cursor) = 0
-stepRefusal step.Absent = 0
-stepRefusal (step.Refused number) = number
+abbrev pub stepVerdict : Step → Verdict
+stepVerdict (step.At cursor) = Answers
+stepVerdict step.Absent = Answers
+stepVerdict (step.Refused number) = Refuses number
 
 -- the start of a walk
-abbrev pub startRefusal : Status → ℕ
-startRefusal status.Begun = 0
-startRefusal (status.Refused number) = number
+abbrev pub startVerdict : Status → Verdict
+startVerdict status.Begun = Answers
+startVerdict (status.Refused number) = Refuses number
 
 -- a walk's call: a network, a place that failed (11, 12, 14), a refused call (9, 13), Paused, End
-abbrev pub nextRefusal : Outcome → ℕ
-nextRefusal (outcome.Given network) = 0
-nextRefusal (outcome.Failed number) = number
-nextRefusal (outcome.Refused number) = number
-nextRefusal outcome.Paused = 0
-nextRefusal outcome.End = 0
+abbrev pub nextVerdict : Outcome → Verdict
+nextVerdict (outcome.Given network) = Answers
+nextVerdict (outcome.Failed number) = Refuses number
+nextVerdict (outcome.Refused number) = Refuses number
+nextVerdict outcome.Paused = Pauses
+nextVerdict outcome.End = Ends
 
 -- verification: the number of distinct offsets
-abbrev pub verifyRefusal : Verified → ℕ
-verifyRefusal (verified.Accepted offsets) = 0
-verifyRefusal (verified.Refused number) = number
+abbrev pub verifyVerdict : Verified → Verdict
+verifyVerdict (verified.Accepted offsets) = Answers
+verifyVerdict (verified.Refused number) = Refuses number
 
 -- the words that it needs
-abbrev pub wordsRefusal : Words → ℕ
-wordsRefusal (words.Are count) = 0
-wordsRefusal (words.Refused number) = number
+abbrev pub wordsVerdict : Words → Verdict
+wordsVerdict (words.Are count) = Answers
+wordsVerdict (words.Refused number) = Refuses number

@@ -1,4 +1,4 @@
--- Values worked by hand, as theorems by computation: docs/SCOPE.md, "Worked cases".
+-- More values worked by hand, as theorems by computation.
 use Prim.Native.Nat.{ℕ, zero, suc}
 use mathlib.Core.Path.{_≡_, refl}
 use mathlib.Core.Bool.{true, false}
@@ -10,7 +10,6 @@ use Rattle.control.specs.Control.{kindOf, sizeAt, sizedAt, headAt}
 use Rattle.control.specs.Pointers.{linkAt, behindAt}
 use Rattle.control.specs.declared.Kind.the-variants as kind
 use Rattle.charge.specs.Charge.{entered, paid}
-use Rattle.charge.specs.declared.Charge.{Charge}
 use Rattle.stored.specs.Stored.{lyingAt, storedAt, resolvedAt}
 use Rattle.stored.specs.declared.Layout.the-variants as layout
 use Rattle.text.specs.Utf8.{run}
@@ -24,23 +23,14 @@ use Rattle.skip.specs.declared.Skipped.the-variants.{Past, Stuck}
 use Rattle.key.specs.Keys.{sameBytes, nameAt}
 use Rattle.path.specs.Steps.{cursor, insideAt, pairAt, findFrom, keyStep, indexStep}
 use Rattle.path.specs.declared.Step.the-variants.{At, Absent, Refused}
+use Rattle.claims.specs.Cases.{charged, Reads}
 
--- what has been charged; a fresh cursor's is nothing
-abbrev charged : ℕ → ℕ → Charge
-charged values payload = record { values = values; payload = payload }
-
--- what reading finds at the start of a section
-abbrev Reads : List ℕ → Value → Type 0
-Reads s v = readAt s 0 (charged 0 0) ≡ v
-
--- 6: 04 01 FF FF FF FF is -1, 01 01 FF is 255; and 03 01 FF FF FF is widened with zeros too
-pub case-6 :
-    Reads (0x04 ∷ 0x01 ∷ 0xff ∷ 0xff ∷ 0xff ∷ 0xff ∷ []) (value.I32 (negsuc 0))
-    × Reads (0x01 ∷ 0x01 ∷ 0xff ∷ []) (value.I32 (pos 255))
-    × Reads (0x03 ∷ 0x01 ∷ 0xff ∷ 0xff ∷ 0xff ∷ []) (value.I32 (pos 16777215))
+-- a short one is widened with zeros, and the lowest
+pub signed :
+    Reads (0x03 ∷ 0x01 ∷ 0xff ∷ 0xff ∷ 0xff ∷ []) (value.I32 (pos 16777215))
     × Reads (0x04 ∷ 0x01 ∷ 0x80 ∷ 0x00 ∷ 0x00 ∷ 0x00 ∷ []) (value.I32 (negsuc 2147483647))
 unfolding readAt resolvedAt storedAt lyingAt headAt sizedAt sizeAt kindOf beAt
-case-6 = (refl, refl, refl, refl)
+signed = (refl, refl)
 
 -- each other kind
 pub kinds :

@@ -1,0 +1,7 @@
+-- The theorems.
+pub mod Worked
+pub mod OtherBytes
+pub mod OtherValues
+pub mod Uniqueness
+pub mod Demand1
+pub mod ShutOut

@@ -1,0 +1,2 @@
+-- The laws that the promises cite.
+pub mod OrderLaws

@@ -1,0 +1,2 @@
+-- The definitions that the promises cite.
+pub mod Order

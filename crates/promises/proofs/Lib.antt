@@ -1,0 +1,13 @@
+-- The theorems.
+pub mod Offsets
+pub mod Images
+pub mod Handles
+pub mod Starts
+pub mod Shapes
+pub mod Calls
+pub mod Tours
+pub mod Verifying
+pub mod Values
+pub mod Steps
+pub mod Parts
+pub mod Texts

@@ -1,0 +1,2 @@
+// No code: when each public function refuses with which number, as theorems.
+pub fn nothing() {}
