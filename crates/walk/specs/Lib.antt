@@ -2,3 +2,4 @@
 pub mod Walks
 pub mod Starts
 pub mod Calls
+pub mod Rows
