@@ -25,7 +25,7 @@ use Rattle.recording.specs.Recording.{tourOf}
 use Rattle.recording.specs.declared.Recorded as recorded
 use Rattle.recording.proofs.TourLaws.{tour-below}
 use Rattle.verify.specs.declared.Verified.the-variants.{Accepted, Refused}
-use Rattle.verify.specs.Verify.{metadataIn, wordsOf, separatorOf, allZero, databaseOf}
+use Rattle.verify.specs.Verify.{metadataIn, wordsOf, separatorOf, allZero, databaseOf, databaseWordsOf}
 
 append-nil : (l : List ℕ) → l ++ [] ≡ l
 append-nil [] = refl
@@ -130,6 +130,14 @@ module _
   words : ws′ ≡ recordEach (replicate (wordsOf s h) 0) (tourOf s h budget .offsets)
   words = ap (λ (d : recording.Done). d .words) walk ∙ ap (λ (k : List ℕ). recordEach k (tourOf s h budget .offsets)) zero
 
+  -- the words as the walk leaves them
+  left : ws′ ≡ recordEach ws (tourOf s h budget .offsets)
+  left = ap (λ (d : recording.Done). d .words) walk
+
+  pub words-walked : (number : ℕ) → r ≡ recorded.the-variants.Refused number → ws′ ≡ databaseWordsOf s h budget ws
+  unfolding databaseWordsOf
+  words-walked number e = simp (ended ∙ e) left
+
   pub recorded-length : length ws′ ≡ wordsOf s h
   recorded-length = ap length words ∙ length-each _ _ ∙ length-replicate (wordsOf s h) 0
 
@@ -142,12 +150,22 @@ module _
     unfolding databaseOf
     database-separator e = simp (ended ∙ all, e)
 
+    pub words-separator : allZero (separatorOf s (h .base)) ≡ false → ws′ ≡ databaseWordsOf s h budget ws
+    unfolding databaseWordsOf
+    words-separator e = simp (ended ∙ all, e) left
+
     module _ (clear : allZero (separatorOf s (h .base)) ≡ true) (a : Skipped) (ws″ : List ℕ) (swept : res a ws″ ≡ dataAt onWords (sectionOf s h) ws′) where
       verdict : dataAccepted (sectionOf s h) (contains (tourOf s h budget .offsets)) ≡ accepts a
       verdict =
           sym (data-zeros s h budget)
           ∙ ap (λ (k : List ℕ). accepts (dataAt onWords (sectionOf s h) k .answer)) (sym words)
           ∙ sym (ap (λ (k : Res (List ℕ)). accepts (k .answer)) swept)
+
+      pub words-swept : ws″ ≡ databaseWordsOf s h budget ws
+      unfolding databaseWordsOf
+      words-swept =
+          simp (ended ∙ all, clear)
+          (ap (λ (k : Res (List ℕ)). k .sets) swept ∙ ap (λ (k : List ℕ). dataAt onWords (sectionOf s h) k .sets) left)
 
       pub database-malformed : a ≡ skipped.Refused → Refused 14 ≡ databaseOf s h budget
       unfolding databaseOf

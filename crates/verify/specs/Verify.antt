@@ -10,9 +10,9 @@ use Rattle.section.specs.Section.{dataLength, sectionOf}
 use Rattle.opening.specs.Opening.{openOf}
 use Rattle.opening.specs.declared.Reader.{Reader}
 use Rattle.opening.specs.declared.Opened as opened
-use Rattle.marks.specs.Marks.{contains, distinct}
-use Rattle.graph.specs.Words.{needed}
-use Rattle.sweep.specs.Sweep.{dataAccepted, metadataAccepted}
+use Rattle.marks.specs.Marks.{contains, distinct, recordEach}
+use Rattle.graph.specs.Words.{needed, onWords}
+use Rattle.sweep.specs.Sweep.{dataAt, metadataAt, dataAccepted, metadataAccepted}
 use Rattle.recording.specs.Recording.{Tour, tourOf}
 use Rattle.recording.specs.declared.Recorded as recorded
 use Rattle.verify.specs.declared.Verified.{Verified}
@@ -88,6 +88,32 @@ verifyOn s ws budget (opened.the-variants.Is r) =
     (out (verdictOf s r budget) (cleared (wordsOf s (r .handle)) ws))
     (out (Refused refusal.scratch) ws)
 verifyOn s ws budget (opened.the-variants.Refused number) = out (Refused number) ws
+
+-- ---- what the lent words hold until they are cleared again
+
+-- after the metadata's graph
+abbrev pub metadataWords : List ℕ → List ℕ → List ℕ
+metadataWords m ws = metadataAt onWords m ws .sets
+
+-- the walk comes to its end, and the separator is all 0: the data section is swept
+abbrev pub isSwept : List ℕ → Handle → recorded.Recorded → Bool
+isSwept s h recorded.the-variants.All = allZero (separatorOf s (h .base))
+isSwept s h (recorded.the-variants.Refused number) = false
+
+-- after the walk, and after the sweep if it is come to
+abbrev pub databaseWordsOn : List ℕ → Handle → Tour → List ℕ → List ℕ
+databaseWordsOn s h t ws =
+    cond (isSwept s h (t .ended)) (dataAt onWords (sectionOf s h) (recordEach ws (t .offsets)) .sets) (recordEach ws (t .offsets))
+
+unfoldable pub databaseWordsOf : List ℕ → Handle → ℕ → List ℕ → List ℕ
+databaseWordsOf s h budget ws = databaseWordsOn s h (tourOf s h budget) ws
+
+-- after the verdict: the words are cleared between the metadata's graph and the walk
+unfoldable pub verdictWordsOf : List ℕ → Reader → ℕ → List ℕ → List ℕ
+verdictWordsOf s r budget ws =
+    cond (metadataAccepted (metadataIn s (r .handle)) && leb 1 (r .metadata .database .size) && leb 1 (r .metadata .description .size))
+    (databaseWordsOf s (r .handle) budget (replicate (wordsOf s (r .handle)) 0))
+    (metadataWords (metadataIn s (r .handle)) ws)
 
 -- THE WHOLE: after 24, 1 to 8 and 22 the scratch is untouched, after any other answer the needed words are 0
 unfoldable pub verifyOf : List ℕ → List ℕ → ℕ → Out

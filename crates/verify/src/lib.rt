@@ -7,7 +7,7 @@ ghost use Rattle.handle.specs.Handle.{fitsOf, imageBound};
 ghost use Rattle.graph.specs.Words.{needed};
 ghost use Rattle.sweep.specs.Sweep.{metadataAccepted};
 ghost use Rattle.section.specs.Section.{sectionOf};
-ghost use Rattle.verify.specs.Verify.{metadataIn, wordsOf, separatorOf, allZero, databaseOf, verdictOf, scratchWordsOf, out, verifyOf};
+ghost use Rattle.verify.specs.Verify.{metadataIn, wordsOf, separatorOf, allZero, databaseOf, verdictOf, scratchWordsOf, out, metadataWords, databaseWordsOf, verdictWordsOf, verifyOf};
 use graph::Skipped;
 use handle::Handle;
 use marks::clear;
@@ -72,6 +72,7 @@ fn is_metadata_accepted(metadata: &[u8], bits: &mut [u64]) -> bool
     requires { ⌜ now bits ≡ replicate (length (now bits)) 0 ⌝ }
     requires { ⌜ (needed (length (now metadata)) ≤ length (now bits)) × (length (now metadata) ≤ imageBound) ⌝ }
     ensures { λ r. ⌜ r ≡ metadataAccepted (now (metadata .entry)) ⌝ }
+    ensures { λ _. ⌜ now (bits .exit) ≡ metadataWords (now (metadata .entry)) (now (bits .entry)) ⌝ }
 {
     match verify_metadata_graph(metadata, bits) {
         Skipped::To { next: _, work: _ } => true,
@@ -84,6 +85,7 @@ fn verify_database(image: &[u8], h: Handle, bits: &mut [u64], budget: u64) -> Ve
     requires { ⌜ fitsOf h (length (now image)) ≡ true ⌝ }
     requires { ⌜ now bits ≡ replicate (wordsOf (now image) h) 0 ⌝ }
     ensures { λ r. ⌜ r ≡ databaseOf (now (image .entry)) h budget ⌝ }
+    ensures { λ _. ⌜ now (bits .exit) ≡ databaseWordsOf (now (image .entry)) h budget (now (bits .entry)) ⌝ }
 {
     match record_networks(image, h, bits, budget) {
         Recorded::Refused(number) => {
@@ -107,6 +109,7 @@ fn verdict(image: &[u8], reader: Reader, bits: &mut [u64], budget: u64) -> Verif
     requires { ⌜ fitsOf (reader .handle) (length (now image)) ≡ true ⌝ }
     requires { ⌜ now bits ≡ replicate (wordsOf (now image) (reader .handle)) 0 ⌝ }
     ensures { λ r. ⌜ r ≡ verdictOf (now (image .entry)) reader budget ⌝ }
+    ensures { λ _. ⌜ now (bits .exit) ≡ verdictWordsOf (now (image .entry)) reader budget (now (bits .entry)) ⌝ }
 {
     let h = reader.handle;
     let m = reader.metadata;

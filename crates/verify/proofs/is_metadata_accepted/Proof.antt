@@ -21,13 +21,13 @@ same-length : tie.Need-same-length
 same-length c = search needs
 
 returns : tie.Need-returns
-returns c = sym (ap accepts (c .enum-told .given .1)) ∙ ap (λ (k : Res (List ℕ)). accepts (k .answer)) (c .before .before .before .before .verify-metadata-graph .ensures) ∙ metadata-zeros _ _ _ (c .before .before .before .before .before .before .before .before .pre .1 .0) (c .before .before .before .before .before .before .before .before .pre .0)
+returns c = (sym (ap accepts (c .enum-told .given .1)) ∙ ap (λ (k : Res (List ℕ)). accepts (k .answer)) (c .before .before .before .before .verify-metadata-graph .ensures) ∙ metadata-zeros _ _ _ (c .before .before .before .before .before .before .before .before .pre .1 .0) (c .before .before .before .before .before .before .before .before .pre .0), ap (λ (k : Res (List ℕ)). k .sets) (c .before .before .before .before .verify-metadata-graph .ensures))
 
 same-length-2 : tie.Need-same-length-2
 same-length-2 c = search needs
 
 returns-2 : tie.Need-returns-2
-returns-2 c = sym (ap accepts (c .enum-told2 .given .1)) ∙ ap (λ (k : Res (List ℕ)). accepts (k .answer)) (c .before .before .before .before .verify-metadata-graph .ensures) ∙ metadata-zeros _ _ _ (c .before .before .before .before .before .before .before .before .pre .1 .0) (c .before .before .before .before .before .before .before .before .pre .0)
+returns-2 c = (sym (ap accepts (c .enum-told2 .given .1)) ∙ ap (λ (k : Res (List ℕ)). accepts (k .answer)) (c .before .before .before .before .verify-metadata-graph .ensures) ∙ metadata-zeros _ _ _ (c .before .before .before .before .before .before .before .before .pre .1 .0) (c .before .before .before .before .before .before .before .before .pre .0), ap (λ (k : Res (List ℕ)). k .sets) (c .before .before .before .before .verify-metadata-graph .ensures))
 
 pub is-metadata-accepted-spec : {M : Type 1} → statement M
 is-metadata-accepted-spec =

@@ -48,7 +48,7 @@ same-length c = search needs
 
 returns-2 : tie.Need-returns-2
 unfolding verifyOf
-returns-2 c = let n = c .before .before .before .before .before .before .before .before .before .before .before .before .before .words-of .result in let part : n ≤ length (c .before .before .before .before .before .before .before .before .before .before .clear .last .0) = omega (arith, c .before .before .before .before .before .before .before .before .before .before .clear .kept .0, c .before .before .before .before .before .before .before .before .before .before .before .before .if1 .left) in simp (sym (c .before .before .before .before .before .before .before .before .before .before .before .before .before .before .before .before .before .before .«open» .ensures) ∙ c .before .before .before .before .before .before .before .before .before .before .before .before .before .before .before .before .reader .given .1, le-leb (wordsOf (c .before .before .before .before .before .before .before .before .before .before .before .before .before .before .before .before .before .before .before .before .before .args .image .now) (c .before .before .before .before .before .before .before .before .before .before .before .before .before .before .before .before .reader .given .0 .0 .handle)) (length (c .before .before .before .before .before .before .before .before .before .before .before .before .before .before .before .before .before .before .before .before .before .args .scratch .now)) (omega (arith, c .before .before .before .before .before .before .before .before .before .before .before .before .if1 .left, c .before .before .before .before .before .before .before .before .before .before .before .before .before .words-of .ensures))) (ap₂ out (c .before .before .before .before .before .before .verdict .ensures) (cleared-twice n (c .before .before .before .before .before .before .before .before .before .before .before .before .before .before .before .before .before .before .before .before .before .args .scratch .now) (c .before .before .before .before .before .before .before .before .before .before .clear .last .0) (c .before .before .before .before .before .before .verdict .last .1 .1 .0) (c .before .before .clear2 .last .0) (c .before .before .before .before .before .before .before .before .before .before .clear .ensures) (c .before .before .before .before .before .before .verdict .kept .1 .1 .0 ∙ sym (front-length n (c .before .before .before .before .before .before .before .before .before .before .clear .last .0) part)) (c .before .before .clear2 .ensures) ∙ ap (λ (k : ℕ). replicate k 0 ++ drop k (c .before .before .before .before .before .before .before .before .before .before .before .before .before .before .before .before .before .before .before .before .before .args .scratch .now)) (c .before .before .before .before .before .before .before .before .before .before .before .before .before .words-of .ensures)))
+returns-2 c = let n = c .before .before .before .before .before .before .before .before .before .before .before .before .before .words-of .result in let part : n ≤ length (c .before .before .before .before .before .before .before .before .before .before .clear .last .0) = omega (arith, c .before .before .before .before .before .before .before .before .before .before .clear .kept .0, c .before .before .before .before .before .before .before .before .before .before .before .before .if1 .left) in simp (sym (c .before .before .before .before .before .before .before .before .before .before .before .before .before .before .before .before .before .before .«open» .ensures) ∙ c .before .before .before .before .before .before .before .before .before .before .before .before .before .before .before .before .reader .given .1, le-leb (wordsOf (c .before .before .before .before .before .before .before .before .before .before .before .before .before .before .before .before .before .before .before .before .before .args .image .now) (c .before .before .before .before .before .before .before .before .before .before .before .before .before .before .before .before .reader .given .0 .0 .handle)) (length (c .before .before .before .before .before .before .before .before .before .before .before .before .before .before .before .before .before .before .before .before .before .args .scratch .now)) (omega (arith, c .before .before .before .before .before .before .before .before .before .before .before .before .if1 .left, c .before .before .before .before .before .before .before .before .before .before .before .before .before .words-of .ensures))) (ap₂ out (c .before .before .before .before .before .before .verdict .ensures .0) (cleared-twice n (c .before .before .before .before .before .before .before .before .before .before .before .before .before .before .before .before .before .before .before .before .before .args .scratch .now) (c .before .before .before .before .before .before .before .before .before .before .clear .last .0) (c .before .before .before .before .before .before .verdict .last .1 .1 .0) (c .before .before .clear2 .last .0) (c .before .before .before .before .before .before .before .before .before .before .clear .ensures) (c .before .before .before .before .before .before .verdict .kept .1 .1 .0 ∙ sym (front-length n (c .before .before .before .before .before .before .before .before .before .before .clear .last .0) part)) (c .before .before .clear2 .ensures) ∙ ap (λ (k : ℕ). replicate k 0 ++ drop k (c .before .before .before .before .before .before .before .before .before .before .before .before .before .before .before .before .before .before .before .before .before .args .scratch .now)) (c .before .before .before .before .before .before .before .before .before .before .before .before .before .words-of .ensures)))
 
 returns-3 : tie.Need-returns-3
 unfolding verifyOf

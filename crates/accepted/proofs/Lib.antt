@@ -1,0 +1,9 @@
+-- The theorems.
+pub mod Turned
+pub mod Ways
+pub mod Ipv4
+pub mod Tours
+pub mod Scratch
+pub mod Skipping
+pub mod Reading
+pub mod Accepted

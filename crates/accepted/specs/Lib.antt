@@ -1,0 +1,4 @@
+-- The definitions that the theorems speak of.
+pub mod Accepted
+pub mod Visited
+pub mod Values

@@ -1,0 +1,2 @@
+-- Images, byte by byte, and what verifying them gives.
+pub mod Worked

@@ -1,0 +1,1 @@
+// No code: images verified by hand, as theorems of proofs/.
