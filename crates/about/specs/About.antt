@@ -6,6 +6,7 @@ use lib.ListN.{length, take, drop}
 use lib.Dec.{leb}
 use Rattle.entries.specs.Entries.{languageOf, descriptionOf}
 use Rattle.metadata.specs.declared.Metadata.{Metadata}
+use Rattle.metadata.specs.declared.Part.{Part}
 use Rattle.entries.specs.declared.Span.{Span}
 use Rattle.entries.specs.declared.Span.the-variants.{At, Absent}
 use Rattle.opening.specs.Opening.{openOf}
@@ -42,3 +43,7 @@ textIn image w i (Refused number) = (0, 0)
 -- none is the image's first 0 bytes
 unfoldable pub textOf : List ℕ → Wanted → ℕ → ℕ × ℕ
 textOf image w i = textIn image w i (openOf image)
+
+-- the same as a struct
+abbrev pub partOf : ℕ × ℕ → Part
+partOf x = record { from = x .0; size = x .1 }

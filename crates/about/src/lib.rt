@@ -1,13 +1,16 @@
 // The texts of an image's metadata, as parts of the image.
 ghost use mathlib.Core.Path.{_≡_};
 ghost use Prim.Native.Nat.{_+_, _≤_};
-ghost use lib.ListN.{length, drop};
+ghost use lib.ListN.{length};
 ghost use denote.Ref.{ptr};
-ghost use Rattle.about.specs.About.{spanned, cutOf, wantedOf, textOf};
+ghost use Rattle.handle.specs.Handle.{imageBound};
+ghost use Rattle.entries.specs.declared.Span.the-variants.{At};
+ghost use Rattle.about.specs.About.{spanned, wantedOf, inImage, textOf, partOf};
 use entries::Span;
 use entries::description;
 use entries::language;
 use metadata::Metadata;
+use metadata::Part;
 use number::room;
 use opening::Opened;
 use opening::open;
@@ -18,25 +21,6 @@ pub enum Wanted {
     Language,
     DescriptionLanguage,
     Description,
-}
-
-fn cut<'a>(s: &'a [u8], from: usize, size: usize) -> &'a [u8]
-    ensures { λ r. ⌜ now r ≡ spanned (now (s .entry)) (cutOf (length (now (s .entry))) from size) ⌝ }
-    ensures { λ r. ⌜ ptr r ≡ (ptr (s .entry) .0, ptr (s .entry) .1 + cutOf (length (now (s .entry))) from size .0) ⌝ }
-{
-    if room(from, size, s.len()) {
-        &s[from..from + size]
-    } else {
-        &s[..0]
-    }
-}
-
-fn metadata_section<'a>(image: &'a [u8], start: usize) -> &'a [u8]
-    requires { ⌜ start ≤ length (now image) ⌝ }
-    ensures { λ r. ⌜ now r ≡ drop start (now (image .entry)) ⌝ }
-    ensures { λ r. ⌜ ptr r ≡ (ptr (image .entry) .0, ptr (image .entry) .1 + start) ⌝ }
-{
-    &image[start..]
 }
 
 fn span(s: &[u8], m: Metadata, wanted: Wanted, index: usize) -> Span
@@ -59,21 +43,51 @@ fn span(s: &[u8], m: Metadata, wanted: Wanted, index: usize) -> Span
     }
 }
 
-// The image's first 0 bytes where it does not open or has no such text.
-pub fn text<'a>(image: &'a [u8], wanted: Wanted, index: usize) -> &'a [u8]
-    ensures { λ r. ⌜ now r ≡ spanned (now (image .entry)) (textOf (now (image .entry)) wanted index) ⌝ }
-    ensures { λ r. ⌜ ptr r ≡ (ptr (image .entry) .0, ptr (image .entry) .1 + textOf (now (image .entry)) wanted index .0) ⌝ }
+// A span of the metadata section, which starts at `start` and has `n` bytes, seen from the image.
+fn seen(start: usize, n: usize, from: usize, size: usize) -> Part
+    requires { ⌜ start + n ≤ imageBound ⌝ }
+    ensures { λ r. ⌜ r ≡ partOf (inImage start n (At from size)) ⌝ }
+    ensures { λ r. ⌜ r .from + r .size ≤ start + n ⌝ }
+{
+    if room(from, size, n) {
+        Part {
+            from: start + from,
+            size,
+        }
+    } else {
+        Part {
+            from: start,
+            size: 0,
+        }
+    }
+}
+
+// Where a text of the metadata lies in the image: no bytes at its start where it does not open or has no such text.
+pub fn place(image: &[u8], wanted: Wanted, index: usize) -> Part
+    ensures { λ r. ⌜ r ≡ partOf (textOf (now (image .entry)) wanted index) ⌝ }
+    ensures { λ r. ⌜ r .from + r .size ≤ length (now (image .entry)) ⌝ }
 {
     match open(image) {
         Opened::Is(reader) => {
             let h = reader.handle;
             let m = reader.metadata;
-            let s = metadata_section(image, h.meta as usize);
+            let start = h.meta as usize;
+            let s = &image[start..];
             match span(s, m, wanted, index) {
-                Span::At { from, size } => cut(s, from, size),
-                Span::Absent => &image[..0],
+                Span::At { from, size } => seen(start, s.len(), from, size),
+                Span::Absent => Part { from: 0, size: 0 },
             }
         }
-        Opened::Refused(_) => &image[..0],
+        Opened::Refused(_) => Part { from: 0, size: 0 },
     }
+}
+
+pub fn text<'a>(image: &'a [u8], wanted: Wanted, index: usize) -> &'a [u8]
+    ensures { λ r. ⌜ now r ≡ spanned (now (image .entry)) (textOf (now (image .entry)) wanted index) ⌝ }
+    ensures { λ r. ⌜ ptr r ≡ (ptr (image .entry) .0, ptr (image .entry) .1 + textOf (now (image .entry)) wanted index .0) ⌝ }
+{
+    let p = place(image, wanted, index);
+    let from = p.from;
+    let end = from + p.size;
+    &image[from..end]
 }

@@ -22,6 +22,7 @@ use stored::Layout;
 use stored::resolved;
 
 // A place of a section, and what has been charged on the way to it. A fresh one has charged nothing.
+#[repr(C)]
 pub struct Cursor {
     pub place: usize,
     pub charge: Charge,

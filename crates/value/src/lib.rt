@@ -146,7 +146,7 @@ pub enum Extent {
     Nothing,
 }
 
-fn payload_size(v: Value, bytes: bool) -> Extent
+pub fn payload_size(v: Value, bytes: bool) -> Extent
     ensures { λ r. ⌜ r ≡ sizeOf bytes v ⌝ }
 {
     match v {

@@ -25,9 +25,12 @@ kindNumber V4 = 1
 kindNumber V6 = 2
 kindNumber V4InV6Subtree = 3
 
+abbrev pub noData : ℕ
+noData = 2 ^ 64 - 1
+
 abbrev pub offsetWord : Offset → ℕ
 offsetWord (At place) = place
-offsetWord None = 2 ^ 64 - 1
+offsetWord None = noData
 
 abbrev pub put : List ℕ → ℕ → Network → List ℕ
 put out row n =

@@ -42,7 +42,7 @@ pub struct Filled {
     pub walk: Walk,
 }
 
-fn kind_number(kind: NetworkKind) -> u64
+pub fn kind_number(kind: NetworkKind) -> u64
     ensures { λ r. ⌜ r ≡ kindNumber kind ⌝ }
 {
     match kind {
@@ -52,7 +52,7 @@ fn kind_number(kind: NetworkKind) -> u64
     }
 }
 
-fn offset_word(offset: Offset) -> u64
+pub fn offset_word(offset: Offset) -> u64
     ensures { λ r. ⌜ r ≡ offsetWord offset ⌝ }
 {
     match offset {
