@@ -4,4 +4,5 @@ pub mod OtherBytes
 pub mod OtherValues
 pub mod Uniqueness
 pub mod Demand1
+pub mod Demand3
 pub mod ShutOut
