@@ -3,6 +3,9 @@ pub mod Worked
 pub mod OtherBytes
 pub mod OtherValues
 pub mod Uniqueness
+pub mod UniquenessC
 pub mod Demand1
+pub mod StatusLaws
+pub mod Demand1C
 pub mod Demand3
 pub mod ShutOut

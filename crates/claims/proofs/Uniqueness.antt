@@ -27,7 +27,7 @@ use Rattle.verify.specs.Verify.{Out}
 use Rattle.claims.specs.Contracts.{Only, OnlyPart, OnlyWithWords}
 
 -- THE LAW: two answers that are both the definition's are one
-only : {A : Type 0} {d r q : A} → r ≡ d → q ≡ d → r ≡ q
+pub only : {A : Type 0} {d r q : A} → r ≡ d → q ≡ d → r ≡ q
 only a b = a ∙ sym b
 
 -- for a part of a slice: its bytes and its place are the definition's, so it is one machine value
@@ -87,7 +87,7 @@ pub scratch-words-only : Only scratch-words.Post
 scratch-words-only args r q a b = only (a .1 .1) (b .1 .1)
 
 -- verification writes lent memory: the words afterwards are pinned with the answer
-pub verify-only : OnlyWithWords verify.Post
+pub verify-only : OnlyWithWords (λ x. now (x .1 .0)) verify.Post
 verify-only args r q x y a b =
     let e = only (a .1) (b .1) in
     (ap (λ (o : Out). o .answer) e, ap (λ (o : Out). o .scratch) e)

@@ -30,12 +30,10 @@ abbrev pub OnlyPart : {Lent Args : Type 0} → (Lent → Args → Slice → Args
 OnlyPart {Lent} {Args} promise =
     (args : Args) (r q : Slice) → Meets promise args r → Meets promise args q → (slice-vals r ≡ slice-vals q) × (now r ≡ now q)
 
--- no second answer, and no second contents of the words lent as the second argument
-abbrev pub OnlyWithWords :
-    {Lent Image Rest Answer : Type 0} → (Lent → Image × (Slice × Rest) → Answer → Image × (Slice × Rest) → Type 0) → Type 0
-OnlyWithWords {Lent} {Image} {Rest} {Answer} promise =
-    (args : Image × (Slice × Rest)) (r q : Answer) (x y : Image × (Slice × Rest)) → Leaves promise args r x → Leaves promise args q y
-    → (r ≡ q) × (now (x .1 .0) ≡ now (y .1 .0))
+-- no second answer, and no second contents of the words lent, which `words` takes out of the arguments
+abbrev pub OnlyWithWords : {Lent Args Answer Words : Type 0} → (Args → Words) → (Lent → Args → Answer → Args → Type 0) → Type 0
+OnlyWithWords {Lent} {Args} {Answer} words promise =
+    (args : Args) (r q : Answer) (x y : Args) → Leaves promise args r x → Leaves promise args q y → (r ≡ q) × (words x ≡ words y)
 
 -- a lent slice of bytes holds bytes
 abbrev pub Bytes : Slice → Type 0

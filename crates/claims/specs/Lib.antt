@@ -1,3 +1,4 @@
 -- The statements.
 pub mod Cases
 pub mod Contracts
+pub mod Statuses

@@ -5,8 +5,7 @@ use mathlib.Core.Logic.{inl, inr}
 use mathlib.Core.List.{List}
 use native.Mathlib.Nat.{le-div-iff-mul-le, div-lt-iff-lt-mul}
 use native.Mathlib.Omega.{arith}
-use lib.ListN.{length, take, drop, length-take, length-drop}
-use lib.Seq.{take-all}
+use lib.ListN.{length, length-take, length-drop}
 use lib.Dec.{leb}
 use Rattle.number.proofs.Tests.{leb-same}
 use Rattle.handle.specs.Handle.{dataStart}
@@ -39,10 +38,6 @@ bytes-some (inr (inr e)) = rw e (omega arith)
 -- the marker stands whole in the image
 pub marker-inside : (s : List ℕ) {marker : ℕ} → markerOf s ≡ At marker → marker + 14 ≤ length s
 marker-inside s {marker} e = omega (arith, simp (length-take, length-drop) at (ap length (marker-at s marker e .0)))
-
--- a part that goes on to the end
-pub rest-whole : (s : List ℕ) (k : ℕ) → take (length s - k) (drop k s) ≡ drop k s
-rest-whole s k = take-all (length s - k) (drop k s) (omega (arith, length-drop k s))
 
 -- a reader by its parts
 pub reader-by :

@@ -26,7 +26,7 @@ use Rattle.carried.proofs.InShape as carried
 use Rattle.carried.proofs.InShape.{Sound, newest-good, sound-taken, sound-opened, sound}
 use Rattle.recording.specs.declared.Recorded.{Recorded}
 use Rattle.recording.specs.declared.Recorded.the-variants as recorded
-use Rattle.recording.specs.declared.Reply.the-variants as reply
+use Rattle.recording.specs.Recording as reply
 use Rattle.recording.specs.Recording.{wholeRange, options, onReply, replyOf, Tour, tooMany, toured, tourOf}
 use Rattle.maxminddb.specs.Answers.{nextVerdict}
 use Rattle.order.specs.Order.{Refuses, First}

@@ -1,9 +1,8 @@
 -- Laws of the tree walk of verification.
-use Prim.Native.Nat.{ℕ, zero, suc, _+_, _-_, _*_, _<_, _≤_}
+use Prim.Native.Nat.{ℕ, zero, suc, _+_, _-_, _*_, _<_}
 use mathlib.Core.Path.{_≡_, refl}
 use mathlib.Core.Bool.{Bool, true, false, cond}
 use mathlib.Core.List.{List}
-use native.Mathlib.Omega.{arith}
 use lib.ListN.{length}
 use lib.Dec.{ltb, leb}
 use borrow.Author.Tests.{ltb-true}
@@ -14,7 +13,6 @@ use Rattle.tree.specs.Lookup.{answerOf, offsetOf}
 use Rattle.tree.specs.declared.Answer as way
 use Rattle.tree.specs.declared.Answer.the-variants.{Found, NotFound, Invalid}
 use Rattle.marks.specs.Marks.{Below, recordEach}
-use Rattle.graph.specs.Words.{needed}
 use Rattle.value.specs.Empty.{emptyAt}
 use Rattle.value.specs.declared.Emptiness.{Emptiness}
 use Rattle.value.specs.declared.Emptiness.the-variants.{Empty, Holds, Malformed}
@@ -32,9 +30,7 @@ use Rattle.walk.specs.declared.Walk.{Walk}
 use Rattle.walk.specs.Walks.{newest}
 use Rattle.walk.specs.Calls.{dataSection, called, goes, nextOf}
 use Rattle.walk.proofs.CallLaws.{by-goes}
-use Rattle.recording.specs.declared.Recorded.{Recorded}
-use Rattle.recording.specs.declared.Reply.the-variants.{On, Ended}
-use Rattle.recording.specs.Recording.{offsetsOf, Roomy, replyOf, Tour, onReply, tooMany, toured, tourOf, done, marked, options}
+use Rattle.recording.specs.Recording.{offsetsOf, On, replyOf, Tour, onReply, tooMany, toured, tourOf, marked}
 
 -- an offset inside a section
 abbrev pub Inside : ℕ → Offset → Type 0
@@ -42,7 +38,7 @@ Inside len (offset.At o) = o < len
 Inside len offset.None = Unit
 
 -- what a call hands out: the offset of its network, if it is one, is inside the data section
-abbrev Told : ℕ → Outcome → Type 0
+abbrev pub Told : ℕ → Outcome → Type 0
 Told len (outcome.Given n) = Inside len (n .offset)
 Told len (outcome.Failed number) = Unit
 Told len (outcome.Refused number) = Unit
@@ -113,28 +109,13 @@ module _ (s : List ℕ) (h : Handle) where
         opened = λ n t w c r e q. q;
       })
 
-  told-next : (w : Walk) (b : ℕ) → Told len (nextOf s h w b .answer)
+  pub told-next : (w : Walk) (b : ℕ) → Told len (nextOf s h w b .answer)
   unfolding nextOf
   told-next w b = pick (fitsOf h (length s))
     where
       pick : (f : Bool) → Told len (cond f (goes s h b 0 w) (called (outcome.Refused refusal.handle) 0 w) .answer)
       pick true = told-goes b 0 w
       pick false = tt
-
-  -- a network's offset is inside the data section
-  told-reply : (a : Outcome) (o : Offset) → Told len a → replyOf a ≡ On o → Inside len o
-  told-reply (outcome.Given n) o i e = let q : n .offset ≡ o = cc in rw q at i
-  told-reply (outcome.Failed number) o i e = let z : _≡_ {A = ℕ} 0 1 = cc in absurd (omega arith)
-  told-reply (outcome.Refused number) o i e = let z : _≡_ {A = ℕ} 0 1 = cc in absurd (omega arith)
-  told-reply outcome.Paused o i e = let z : _≡_ {A = ℕ} 0 1 = cc in absurd (omega arith)
-  told-reply outcome.End o i e = let z : _≡_ {A = ℕ} 0 1 = cc in absurd (omega arith)
-
-  roomy : (n : ℕ) (o : Offset) → needed len ≤ n → Inside len o → Roomy n o
-  roomy n (offset.At o) r i = omega arith
-  roomy n offset.None r i = tt
-
-  pub reply-roomy : (n : ℕ) (w : Walk) (b : ℕ) (o : Offset) → needed len ≤ n → replyOf (nextOf s h w b .answer) ≡ On o → Roomy n o
-  reply-roomy n w b o r e = roomy n o r (told-reply (nextOf s h w b .answer) o (told-next w b) e)
 
   below-reply : (a : Outcome) (t : Tour) → Told len a → Below len (t .offsets) → Below len (onReply (replyOf a) t .offsets)
   unfolding Below
@@ -159,27 +140,8 @@ module _ (s : List ℕ) (h : Handle) where
   unfolding tourOf
   tour-below budget = toured-below (3 * h .nodes) budget _
 
--- one call of the walk's loop, by what its answer says
-module _ (s : List ℕ) (h : Handle) (b : ℕ) (w : Walk) (ws : List ℕ) where
-  pub tour-ended : (more : ℕ) (r : Recorded) → replyOf (nextOf s h w b .answer) ≡ Ended r → done r ws ≡ marked (toured s h more b w) ws
-  unfolding toured recordEach
-  tour-ended zero r e = simp e
-  tour-ended (suc more) r e = simp e
-
-  marked-offset : (o : Offset) (t : Tour) → marked t (recordEach ws (offsetsOf o)) ≡ marked (onReply (On o) t) ws
-  unfolding recordEach
-  marked-offset (offset.At x) t = refl
-  marked-offset offset.None t = refl
-
-  module _ (o : Offset) (e : replyOf (nextOf s h w b .answer) ≡ On o) where
-    pub tour-over : (more : ℕ) → more ≡ 0 → done (tooMany .ended) (recordEach ws (offsetsOf o)) ≡ marked (toured s h more b w) ws
-    unfolding toured recordEach
-    tour-over zero z = simp e (marked-offset o tooMany)
-    tour-over (suc more) z = absurd (omega arith)
-
-    pub tour-on :
-        (more : ℕ) → (more ≡ 0 → ⊥)
-        → marked (toured s h (more - 1) (b - nextOf s h w b .taken) (nextOf s h w b .walk)) (recordEach ws (offsetsOf o)) ≡ marked (toured s h more b w) ws
-    unfolding toured
-    tour-on zero z = absurd (z refl)
-    tour-on (suc more) z = let k : suc more - 1 ≡ more = omega arith in rw k (simp e (marked-offset o _))
+-- the scratch with a network's offset first
+pub marked-offset : (ws : List ℕ) (o : Offset) (t : Tour) → marked t (recordEach ws (offsetsOf o)) ≡ marked (onReply (On o) t) ws
+unfolding recordEach
+marked-offset ws (offset.At x) t = refl
+marked-offset ws offset.None t = refl

@@ -2,6 +2,7 @@
 use Prim.Native.Nat.{ℕ, zero, suc, _+_, _-_, _*_, _/_, _<_}
 use mathlib.Core.Bool.{true, false, cond}
 use mathlib.Core.List.{List, [], _∷_, _++_}
+use lib.ListN.{getD}
 use lib.Dec.{eqb}
 use Rattle.refusal.specs.Refusals as refusal
 use Rattle.handle.specs.declared.Handle.{Handle}
@@ -16,10 +17,9 @@ use Rattle.walk.specs.declared.Range.the-variants.{Ipv4, Ipv6}
 use Rattle.walk.specs.declared.Walk.{Walk}
 use Rattle.walk.specs.Starts.{beginOf}
 use Rattle.walk.specs.Calls.{nextOf}
+use Rattle.walk.specs.Rows.{noData}
 use Rattle.recording.specs.declared.Recorded.{Recorded}
 use Rattle.recording.specs.declared.Recorded.the-variants.{All, Refused}
-use Rattle.recording.specs.declared.Reply.{Reply}
-use Rattle.recording.specs.declared.Reply.the-variants.{On, Ended}
 
 -- every address of the image's own width
 abbrev pub wholeRange : Handle → Range
@@ -37,6 +37,20 @@ offsetsOf offset.None = []
 abbrev pub Roomy : ℕ → Offset → Type 0
 Roomy n (offset.At o) = o / 64 * 2 + 1 < n
 Roomy n offset.None = Unit
+
+-- the offset in a row's last word
+abbrev pub offsetIn : ℕ → Offset
+offsetIn word = cond (eqb word noData) offset.None (offset.At word)
+
+-- the offsets of n rows, from a row on
+unfoldable pub offsetsFrom : List ℕ → ℕ → ℕ → List ℕ
+offsetsFrom rows row zero = []
+offsetsFrom rows row (suc n) = offsetsOf (offsetIn (getD rows (row * 5 + 4) 0)) ++ offsetsFrom rows (row + 1) n
+
+-- a network, with its data's offset, or the walk's end
+pub data Reply : Type 0 where
+  On : Offset → Reply
+  Ended : Recorded → Reply
 
 -- what a call's answer says: 11 and 12 end the walk, and 21 where the budget is spent with places still waiting
 abbrev pub replyOf : Outcome → Reply

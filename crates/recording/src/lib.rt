@@ -1,36 +1,32 @@
 // The tree walk of verification: the offset of each network with data is recorded in the scratch.
 ghost use mathlib.Core.Path.{_≡_};
 ghost use mathlib.Core.Bool.{true};
-ghost use Prim.Native.Nat.{_≤_};
+ghost use Prim.Native.Nat.{_*_, _/_, _≤_};
 ghost use lib.ListN.{length};
 ghost use Rattle.handle.specs.Handle.{fitsOf};
-ghost use Rattle.marks.specs.Marks.{recordEach};
+ghost use Rattle.marks.specs.Marks.{recordEach, Below};
 ghost use Rattle.graph.specs.Words.{needed};
 ghost use Rattle.walk.specs.Calls.{dataSection};
-ghost use Rattle.recording.specs.Recording.{wholeRange, offsetsOf, Roomy, replyOf, done, marked, tourOf};
+ghost use Rattle.recording.specs.Recording.{wholeRange, offsetsOf, Roomy, offsetIn, offsetsFrom, done, marked, tourOf};
 use handle::Handle;
 use marks::RECORDED;
 use marks::set_state;
 use number::Key;
 use place::Offset;
 use place::Options;
-use place::Outcome;
 use refusal::BUDGET;
 use refusal::TOO_MANY_NETWORKS;
 use walk::Range;
-use walk::call::next;
+use walk::rows::Halt;
+use walk::rows::NO_DATA;
+use walk::rows::ROW_WORDS;
+use walk::rows::next_rows;
 use walk::start::begin;
 
 // How the walk ended: behind its last network, or by a refusal.
 pub enum Recorded {
     All,
     Refused(u8),
-}
-
-// What a call's answer says: a network, with its data's offset, or the walk's end.
-pub enum Reply {
-    On(Offset),
-    Ended(Recorded),
 }
 
 fn whole_range(h: Handle) -> Range
@@ -45,19 +41,14 @@ fn whole_range(h: Handle) -> Range
     }
 }
 
-fn reply_of(answer: Outcome) -> Reply
-    ensures { λ r. ⌜ r ≡ replyOf answer ⌝ }
+// The offset in a row's last word.
+fn offset_of(word: u64) -> Offset
+    ensures { λ r. ⌜ r ≡ offsetIn word ⌝ }
 {
-    match answer {
-        Outcome::Given(network) => {
-            let offset = network.offset;
-            Reply::On(offset)
-        }
-        Outcome::Failed(number) => Reply::Ended(Recorded::Refused(number)),
-        Outcome::Refused(number) => Reply::Ended(Recorded::Refused(number)),
-        Outcome::Paused => Reply::Ended(Recorded::Refused(BUDGET)),
-        Outcome::End => Reply::Ended(Recorded::All),
+    if word == NO_DATA {
+        return Offset::None;
     }
+    Offset::At(word)
 }
 
 fn mark(bits: &mut [u64], offset: Offset)
@@ -67,6 +58,26 @@ fn mark(bits: &mut [u64], offset: Offset)
     match offset {
         Offset::At(place) => set_state(bits, place as usize, RECORDED),
         Offset::None => {}
+    }
+}
+
+// The rows that one call fills: 256.
+fn rows_room() -> [u64; 1280]
+    ensures { λ r. ⌜ 1280 ≡ length r ⌝ }
+{
+    [0; 1280]
+}
+
+// The offsets of the first n rows.
+fn mark_rows(bits: &mut [u64], rows: &[u64], n: usize)
+    requires { ⌜ n * 5 ≤ length (now rows) ⌝ }
+    requires { ⌜ Below (length (now bits) / 2 * 64) (offsetsFrom (now rows) 0 n) ⌝ }
+    ensures { λ _. ⌜ now (bits .exit) ≡ recordEach (now (bits .entry)) (offsetsFrom (now (rows .entry)) 0 n) ⌝ }
+{
+    let mut row: usize = 0;
+    while row < n {
+        mark(bits, offset_of(rows[row * ROW_WORDS + 4]));
+        row += 1;
     }
 }
 
@@ -81,25 +92,37 @@ pub fn record_networks(image: &[u8], h: Handle, bits: &mut [u64], budget: u64) -
         skipempty: false,
     };
     let started = begin(image, h, whole_range(h), options);
+    let mut rows = rows_room();
     let mut walk = started.walk;
     let mut left = budget;
     let mut more = 3 * h.nodes;
     loop {
-        let called = next(image, h, walk, left);
-        let answer = called.answer;
-        match reply_of(answer) {
-            Reply::On(offset) => {
-                mark(bits, offset);
-                if more == 0 {
-                    return Recorded::Refused(TOO_MANY_NETWORKS);
-                }
-                let carried = called.walk;
+        let filled = next_rows(image, h, walk, &mut rows, left);
+        let n = filled.rows;
+        if more < n {
+            mark_rows(bits, &rows, (more + 1) as usize);
+            return Recorded::Refused(TOO_MANY_NETWORKS);
+        }
+        mark_rows(bits, &rows, n as usize);
+        let halt = filled.halt;
+        match halt {
+            Halt::Full => {
+                let carried = filled.walk;
                 walk = carried;
-                left -= called.taken;
-                more -= 1;
+                left -= filled.taken;
+                more -= n;
             }
-            Reply::Ended(recorded) => {
-                return recorded;
+            Halt::Failed(number) => {
+                return Recorded::Refused(number);
+            }
+            Halt::Refused(number) => {
+                return Recorded::Refused(number);
+            }
+            Halt::Paused => {
+                return Recorded::Refused(BUDGET);
+            }
+            Halt::End => {
+                return Recorded::All;
             }
         }
     }

@@ -7,8 +7,8 @@ use mathlib.Core.List.{List}
 use native.Mathlib.Nat.{add-mul, mul-le-mul, mul-le-mul-right, pow-suc, div-eq-of-lt, mod-lt, mod-one}
 use native.Mathlib.Numerals.{add-one}
 use native.Mathlib.Omega.{arith}
-use lib.ListN.{getD, take}
-use lib.Seq.{getD-take}
+use lib.ListN.{getD, length, take, drop, length-drop}
+use lib.Seq.{take-all, getD-take, getD-drop}
 use lib.Dec.{eqb}
 use lib.Arith.{digits-lt, digits-div, digits-mod}
 use lib.Bits.{bitAnd, and-high, and-zero-r, and-le-l}
@@ -24,6 +24,17 @@ window-inside node bytes bit four inside one =
     let e : (node + 1) * bytes ≡ node * bytes + 1 * bytes = add-mul node 1 bytes in
     let l : bit * (bytes - 4) ≤ 1 * (bytes - 4) = mul-le-mul-right (bytes - 4) (omega arith) in
     omega arith
+
+-- what follows the first k of a list, as a slice from k on has it
+pub rest-whole : (s : List ℕ) (k : ℕ) → take (length s - k) (drop k s) ≡ drop k s
+rest-whole s k = take-all (length s - k) (drop k s) (omega (arith, length-drop k s))
+
+-- its bytes are those from k on
+pub be-drop : (s : List ℕ) (k p n : ℕ) → beAt (drop k s) p n ≡ beAt s (p + k) n
+be-drop s k p zero = be-none (drop k s) p ∙ sym (be-none s (p + k))
+be-drop s k p (suc n) =
+    let e : k + (p + n) ≡ p + k + n = omega arith in
+    rw (sym (add-one n), be-step (drop k s) p n, be-step s (p + k) n, be-drop s k p n, getD-drop k s (p + n) 0, e)
 
 -- the bytes of a word, written out
 pub word-bytes :

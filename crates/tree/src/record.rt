@@ -14,12 +14,14 @@ fn word(s: &[u8], o: usize) -> u64
     wide(s[o]) * 16777216 + wide(s[o + 1]) * 65536 + wide(s[o + 2]) * 256 + wide(s[o + 3])
 }
 
-// A node's first four bytes for bit 0, its last four for bit 1: they hold the whole record at each size.
+// A node's first four bytes for bit 0, its last four for bit 1: they hold the whole record at each size. The bit's part is
+// taken first: it waits for no record, so that a way down waits for less at each level.
 fn window(s: &[u8], node: u64, bytes: u64, bit: u64) -> u64
     requires { ⌜ (4 ≤ bytes) × ((node + 1) * bytes ≤ length (now s)) × (bit < 2) ⌝ }
     ensures { λ r. ⌜ (r ≡ beAt (now (s .entry)) (node * bytes + bit * (bytes - 4)) 4) × (r < 2 ^ 32) ⌝ }
 {
-    word(s, (node * bytes + bit * (bytes - 4)) as usize)
+    let side = &s[(bit * (bytes - 4)) as usize..];
+    word(side, (node * bytes) as usize)
 }
 
 // A record of a node. Shifts by a variable keep the window one load; at size 28 the mask takes the left record's nibble

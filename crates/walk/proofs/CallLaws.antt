@@ -7,7 +7,7 @@ use mathlib.Core.List.{List}
 use native.Mathlib.Omega.{arith}
 use lib.ListN.{set}
 use lib.Dec.{ltb, eqb}
-use borrow.Author.Tests.{eq-eqb, ne-eqb, lt-ltb, eqb-true, eqb-false, ltb-false}
+use borrow.Author.Tests.{eq-eqb, ne-eqb, lt-ltb, le-ltb, eqb-true, eqb-false, ltb-false}
 use Rattle.refusal.specs.Refusals as refusal
 use Rattle.handle.specs.declared.Handle.{Handle}
 use Rattle.place.specs.Shape.{frameOut, keyOut, newestOut}
@@ -36,6 +36,10 @@ pub frame-in : (count width : ℕ) → frameOut count width ≡ false → (count
 frame-in count width e =
     let n = neither (ltb 129 count) (not (eqb width 32 || eqb width 128)) e in
     (ltb-false 129 count (n .0), either-width width (eqb width 32) (eqb width 128) refl refl (n .1))
+
+-- another count of the same width
+pub frame-of : (count other width : ℕ) → frameOut count width ≡ false → other ≤ 129 → frameOut other width ≡ false
+frame-of count other width e few = simp (le-ltb 129 other few, neither (ltb 129 count) (not (eqb width 32 || eqb width 128)) e .1)
 
 -- its newest place: no longer than the width, and with room for a child if it is a node above full width
 pub newest-long : (nodes count width : ℕ) (p : Place) → newestOut nodes count width p ≡ false → p .len ≤ width

@@ -1,4 +1,5 @@
 -- The laws that the proofs cite.
 pub mod StartLaws
 pub mod CallLaws
+mod HeldLaws
 pub mod RowLaws

@@ -6,7 +6,8 @@ use native.Mathlib.Omega.{arith}
 use borrow.Author.Tests.{le-leb, lt-leb}
 use denote.Ref.{now}
 use Rattle.opening.specs.Opening.{openOf}
-use Rattle.opening.proofs.TreeLaws.{marker-inside, rest-whole}
+use Rattle.tree.proofs.RecordLaws.{rest-whole}
+use Rattle.opening.proofs.TreeLaws.{marker-inside}
 
 returns : tie.Need-returns
 unfolding openOf

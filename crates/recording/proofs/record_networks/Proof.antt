@@ -1,31 +1,46 @@
 use Rattle.recording.proofs.record_networks.Statement.{statement}
 use Rattle.recording.proofs.record_networks.Tie as tie
-use borrow.Author.Needs.{needs}
+use Prim.Native.Nat.{_*_, _/_, _≤_}
 use mathlib.Core.Path.{_≡_, refl, sym, ap, _∙_}
 use native.Mathlib.Omega.{arith}
+use borrow.Author.Needs.{needs}
 use lib.ListN.{length}
-use denote.Ref.{now}
 use Rattle.handle.proofs.HandleLaws.{fit}
-use Rattle.carried.proofs.Paused.{within-budget}
+use Rattle.marks.specs.Marks.{recordEach}
 use Rattle.marks.proofs.MarkLaws.{length-each}
-use Rattle.walk.specs.Calls.{nextOf}
-use Rattle.walk.specs.declared.Called.{Called}
-use Rattle.recording.specs.Recording.{replyOf, toured, tourOf, marked}
-use Rattle.recording.specs.declared.Reply.{Reply}
-use Rattle.recording.proofs.TourLaws.{reply-roomy, tour-ended, tour-over, tour-on}
+use Rattle.walk.specs.Calls.{dataSection}
+use Rattle.walk.specs.Rows.{Poured, poured}
+use Rattle.recording.specs.Recording.{toured, tourOf, marked}
+use Rattle.recording.proofs.RunLaws.{Swept, halted, swept}
 
 abbrev Inv-loop : tie.InvT-loop
-Inv-loop image h bits₀ budget walk₀ left₀ more₀ bits walk left more =
-    (length bits ≡ length bits₀) × (marked (toured image h more left walk) bits ≡ marked (tourOf image h budget) bits₀)
+Inv-loop image h bits₀ budget rows₀ walk₀ left₀ more₀ bits rows walk left more =
+    (length bits ≡ length bits₀) × (length rows ≡ 1280) × (marked (toured image h more left walk) bits ≡ marked (tourOf image h budget) bits₀)
 
 abbrev μ-loop : tie.MeasureT-loop
-μ-loop image h bits₀ budget walk₀ left₀ more₀ bits walk left more = more
+μ-loop image h bits₀ budget rows₀ walk₀ left₀ more₀ bits rows walk left more = more
 
--- what the call's answer says
-replied :
-    (c : tie.After-reply-of Inv-loop μ-loop) (r : Reply) → c .reply-of .result ≡ r
-    → replyOf (nextOf (c .before .before .before .before .before .before .before .before .before .args .image .now) (c .before .before .before .before .before .before .before .before .before .args .h) (c .before .before .loop .walk) (c .before .before .loop .left) .answer) ≡ r
-replied c r e = sym (ap (λ (k : Called). replyOf (k .answer)) (c .before .next .ensures)) ∙ sym (c .reply-of .ensures) ∙ e
+-- a call, and the rows then
+abbrev call : (c : tie.After-next-rows Inv-loop μ-loop) → Poured
+call c = poured (c .next-rows .result) (c .next-rows .last .1 .1 .1 .0)
+
+abbrev Sweeps : tie.After-next-rows Inv-loop μ-loop → Type 0
+Sweeps c = Swept (c .before .before .before .before .before .before .before .before .before .before .args .image .now) (c .before .before .before .before .before .before .before .before .before .before .args .h) (c .before .before .loop .left) (c .before .before .loop .walk) 256 (call c)
+
+sweeps : (c : tie.After-next-rows Inv-loop μ-loop) → Sweeps c
+sweeps c =
+    let e : length (c .before .before .loop .rows) / 5 ≡ 256 = omega (arith, c .before .before .loop .inv .1) in
+    swept (c .before .before .before .before .before .before .before .before .before .before .args .image .now) (c .before .before .before .before .before .before .before .before .before .before .args .h) (c .before .before .loop .left) (c .before .before .loop .walk) 256 (c .before .before .before .before .before .before .before .before .before .before .pre .0) (c .before .before .loop .rows) e (call c) (c .next-rows .ensures)
+
+-- as many words as there were, and room in the scratch for the whole section
+lasts : (c : tie.After-next-rows Inv-loop μ-loop) → length (c .next-rows .last .1 .1 .1 .0) ≡ 1280
+lasts c = c .next-rows .kept .1 .1 .1 .0 ∙ c .before .before .loop .inv .1
+
+room : (c : tie.After-next-rows Inv-loop μ-loop) → length (dataSection (c .before .before .before .before .before .before .before .before .before .before .args .image .now) (c .before .before .before .before .before .before .before .before .before .before .args .h)) ≤ length (c .before .before .loop .bits) / 2 * 64
+room c = omega (arith, c .before .before .before .before .before .before .before .before .before .before .pre .1, c .before .before .loop .inv .0)
+
+few : (c : tie.After-next-rows Inv-loop μ-loop) → c .next-rows .result .rows ≤ 256
+few c = sweeps c .few
 
 whole-range-requires : tie.Need-whole-range-requires Inv-loop μ-loop
 whole-range-requires c κs = search needs
@@ -33,54 +48,94 @@ whole-range-requires c κs = search needs
 begin-requires : tie.Need-begin-requires Inv-loop μ-loop
 begin-requires c κs = search needs
 
+rows-room-requires : tie.Need-rows-room-requires Inv-loop μ-loop
+rows-room-requires c κs = search needs
+
 mul-more : tie.Need-mul-more Inv-loop μ-loop
-mul-more c = let f = fit _ _ (c .before .before .before .before .before .before .pre .0) in omega (arith, f .few)
+mul-more c = let f = fit _ _ (c .before .before .before .before .before .before .before .pre .0) in omega (arith, f .few)
 
 loop-holds : tie.Need-loop-holds Inv-loop μ-loop
 unfolding tourOf
-loop-holds c = (refl, rw (c .before .before .begin .ensures, c .before .before .before .whole-range .ensures) refl)
+loop-holds c = (refl, sym (c .before .before .rows-room .ensures), rw (c .before .before .before .begin .ensures, c .before .before .before .before .whole-range .ensures) refl)
 
-next-requires : tie.Need-next-requires Inv-loop μ-loop
-next-requires c κs = search needs
+slice-aggregate-next-rows : tie.Need-slice-aggregate-next-rows Inv-loop μ-loop
+slice-aggregate-next-rows c = sym (c .before .loop .inv .1)
 
-reply-of-requires : tie.Need-reply-of-requires Inv-loop μ-loop
-reply-of-requires c κs = search needs
+next-rows-requires : tie.Need-next-rows-requires Inv-loop μ-loop
+next-rows-requires c κs = search needs
 
-enum-known-offset : tie.Need-enum-known-offset Inv-loop μ-loop
-enum-known-offset c = search needs
+slice-aggregate-mark-rows : tie.Need-slice-aggregate-mark-rows Inv-loop μ-loop
+slice-aggregate-mark-rows c = sym (lasts (c .before .before .before .before))
 
-mark-requires : tie.Need-mark-requires Inv-loop μ-loop
-mark-requires c κs = reply-roomy (c .before .before .before .before .before .before .before .before .before .before .before .before .before .args .image .now) (c .before .before .before .before .before .before .before .before .before .before .before .before .before .args .h) _ (c .before .before .before .before .before .before .loop .walk) (c .before .before .before .before .before .before .loop .left) _ (omega (arith, c .before .before .before .before .before .before .before .before .before .before .before .before .before .pre .1, c .before .before .before .before .before .before .loop .inv .0)) (replied (c .before .before .before .before) _ (c .before .before .offset .given .1))
+add-mark-rows : tie.Need-add-mark-rows Inv-loop μ-loop
+add-mark-rows c = let l : c .before .before .before .before .next-rows .result .rows ≤ 256 = few (c .before .before .before .before) in omega (arith, c .before .before .if1 .taken, l)
+
+mark-rows-requires : tie.Need-mark-rows-requires Inv-loop μ-loop
+mark-rows-requires c κs = let l : c .before .before .before .before .next-rows .result .rows ≤ 256 = few (c .before .before .before .before) in (omega (arith, c .before .before .if1 .taken, l, lasts (c .before .before .before .before)), sweeps (c .before .before .before .before) .below _ _ (room (c .before .before .before .before)) (omega (arith, c .before .before .if1 .taken)))
 
 same-length : tie.Need-same-length Inv-loop μ-loop
 same-length c = search needs
 
 returns : tie.Need-returns Inv-loop μ-loop
-returns c = rw (c .before .before .before .mark .ensures) (tour-over (c .before .before .before .before .before .before .before .before .before .before .before .before .before .before .before .before .before .args .image .now) (c .before .before .before .before .before .before .before .before .before .before .before .before .before .before .before .before .before .args .h) (c .before .before .before .before .before .before .before .before .before .before .loop .left) (c .before .before .before .before .before .before .before .before .before .before .loop .walk) (c .before .before .before .before .before .before .before .before .before .before .loop .bits) _ (replied (c .before .before .before .before .before .before .before .before) _ (c .before .before .before .before .before .before .offset .given .1)) (c .before .before .before .before .before .before .before .before .before .before .loop .more) (omega arith) ∙ c .before .before .before .before .before .before .before .before .before .before .loop .inv .1)
+returns c = rw (c .before .before .mark-rows .ensures) (sweeps (c .before .before .before .before .before .before .before) .over _ _ (c .before .before .before .before .before .if1 .taken) ∙ c .before .before .before .before .before .before .before .before .before .loop .inv .2)
+
+slice-aggregate-mark-rows-2 : tie.Need-slice-aggregate-mark-rows-2 Inv-loop μ-loop
+slice-aggregate-mark-rows-2 c = sym (lasts (c .before .before .before .before))
+
+mark-rows-requires-2 : tie.Need-mark-rows-requires-2 Inv-loop μ-loop
+mark-rows-requires-2 c κs = let l : c .before .before .before .before .next-rows .result .rows ≤ 256 = few (c .before .before .before .before) in (omega (arith, l, lasts (c .before .before .before .before)), sweeps (c .before .before .before .before) .below _ _ (room (c .before .before .before .before)) (omega arith))
+
+enum-told : tie.Need-enum-told Inv-loop μ-loop
+enum-told c = search needs
 
 sub-left : tie.Need-sub-left Inv-loop μ-loop
-sub-left c = omega (arith, ap (λ (k : Called). k .taken) (c .before .before .before .before .before .before .before .before .before .before .before .next .ensures), within-budget (c .before .before .before .before .before .before .before .before .before .before .before .before .before .before .before .before .before .before .before .args .image .now) (c .before .before .before .before .before .before .before .before .before .before .before .before .before .before .before .before .before .before .before .args .h) (c .before .before .before .before .before .before .before .before .before .before .before .before .loop .walk) (c .before .before .before .before .before .before .before .before .before .before .before .before .loop .left))
-
-sub-more : tie.Need-sub-more Inv-loop μ-loop
-sub-more c = search needs
+sub-left c = sweeps (c .before .before .before .before .before .before .before .before .before .before .before) .paid
 
 loop-less : tie.Need-loop-less Inv-loop μ-loop
-loop-less c = search needs
+loop-less c = let l : c .before .before .before .before .before .before .before .before .before .before .before .next-rows .result .rows ≡ 256 = sweeps (c .before .before .before .before .before .before .before .before .before .before .before) .full (c .before .before .enum-told .given .1) in omega (arith, c .before .before .before .before .before .before .before .before .before .if1 .left, l)
 
 loop-again : tie.Need-loop-again Inv-loop μ-loop
-loop-again c = (
-  ap length (c .before .before .before .before .before .mark .ensures) ∙ length-each _ _ ∙ c .before .before .before .before .before .before .before .before .before .before .before .before .loop .inv .0,
-  rw (c .before .before .before .before .before .mark .ensures, c .before .before .before .before .before .before .before .before .before .before .before .next .ensures) (tour-on (c .before .before .before .before .before .before .before .before .before .before .before .before .before .before .before .before .before .before .before .args .image .now) (c .before .before .before .before .before .before .before .before .before .before .before .before .before .before .before .before .before .before .before .args .h) (c .before .before .before .before .before .before .before .before .before .before .before .before .loop .left) (c .before .before .before .before .before .before .before .before .before .before .before .before .loop .walk) (c .before .before .before .before .before .before .before .before .before .before .before .before .loop .bits) _ (replied (c .before .before .before .before .before .before .before .before .before .before) _ (c .before .before .before .before .before .before .before .before .offset .given .1)) (c .before .before .before .before .before .before .before .before .before .before .before .before .loop .more) (λ e. omega arith) ∙ c .before .before .before .before .before .before .before .before .before .before .before .before .loop .inv .1),
-)
+loop-again c = (ap length (c .before .before .before .before .before .before .mark-rows2 .ensures) ∙ length-each _ _ ∙ c .before .before .before .before .before .before .before .before .before .before .before .before .before .loop .inv .0, lasts (c .before .before .before .before .before .before .before .before .before .before .before), rw (c .before .before .before .before .before .before .mark-rows2 .ensures) (halted _ _ _ _ _ (call (c .before .before .before .before .before .before .before .before .before .before .before)) (sweeps (c .before .before .before .before .before .before .before .before .before .before .before)) _ (c .before .before .enum-told .given .1) _ _ (omega (arith, c .before .before .before .before .before .before .before .before .before .if1 .left)) ∙ c .before .before .before .before .before .before .before .before .before .before .before .before .before .loop .inv .2))
 
-enum-known-recorded : tie.Need-enum-known-recorded Inv-loop μ-loop
-enum-known-recorded c = search needs
+enum-known-halt : tie.Need-enum-known-halt Inv-loop μ-loop
+enum-known-halt c = search needs
 
 same-length-2 : tie.Need-same-length-2 Inv-loop μ-loop
 same-length-2 c = search needs
 
 returns-2 : tie.Need-returns-2 Inv-loop μ-loop
-returns-2 c = tour-ended (c .before .before .before .before .before .before .before .before .before .before .before .before .args .image .now) (c .before .before .before .before .before .before .before .before .before .before .before .before .args .h) (c .before .before .before .before .before .loop .left) (c .before .before .before .before .before .loop .walk) (c .before .before .before .before .before .loop .bits) (c .before .before .before .before .before .loop .more) _ (replied (c .before .before .before) _ (c .before .recorded .given .1)) ∙ c .before .before .before .before .before .loop .inv .1
+unfolding recordEach
+returns-2 c = rw (c .before .before .before .before .before .mark-rows2 .ensures) (halted _ _ _ _ _ (call (c .before .before .before .before .before .before .before .before .before .before)) (sweeps (c .before .before .before .before .before .before .before .before .before .before)) _ (c .before .halt .given .1) _ _ (omega (arith, c .before .before .before .before .before .before .before .before .if1 .left)) ∙ c .before .before .before .before .before .before .before .before .before .before .before .before .loop .inv .2)
+
+enum-known-halt-2 : tie.Need-enum-known-halt-2 Inv-loop μ-loop
+enum-known-halt-2 c = search needs
+
+same-length-3 : tie.Need-same-length-3 Inv-loop μ-loop
+same-length-3 c = search needs
+
+returns-3 : tie.Need-returns-3 Inv-loop μ-loop
+unfolding recordEach
+returns-3 c = rw (c .before .before .before .before .before .mark-rows2 .ensures) (halted _ _ _ _ _ (call (c .before .before .before .before .before .before .before .before .before .before)) (sweeps (c .before .before .before .before .before .before .before .before .before .before)) _ (c .before .halt2 .given .1) _ _ (omega (arith, c .before .before .before .before .before .before .before .before .if1 .left)) ∙ c .before .before .before .before .before .before .before .before .before .before .before .before .loop .inv .2)
+
+enum-told-2 : tie.Need-enum-told-2 Inv-loop μ-loop
+enum-told-2 c = search needs
+
+same-length-4 : tie.Need-same-length-4 Inv-loop μ-loop
+same-length-4 c = search needs
+
+returns-4 : tie.Need-returns-4 Inv-loop μ-loop
+unfolding recordEach
+returns-4 c = rw (c .before .before .before .before .mark-rows2 .ensures) (halted _ _ _ _ _ (call (c .before .before .before .before .before .before .before .before .before)) (sweeps (c .before .before .before .before .before .before .before .before .before)) _ (c .enum-told2 .given .1) _ _ (omega (arith, c .before .before .before .before .before .before .before .if1 .left)) ∙ c .before .before .before .before .before .before .before .before .before .before .before .loop .inv .2)
+
+enum-told-3 : tie.Need-enum-told-3 Inv-loop μ-loop
+enum-told-3 c = search needs
+
+same-length-5 : tie.Need-same-length-5 Inv-loop μ-loop
+same-length-5 c = search needs
+
+returns-5 : tie.Need-returns-5 Inv-loop μ-loop
+unfolding recordEach
+returns-5 c = rw (c .before .before .before .before .mark-rows2 .ensures) (halted _ _ _ _ _ (call (c .before .before .before .before .before .before .before .before .before)) (sweeps (c .before .before .before .before .before .before .before .before .before)) _ (c .enum-told3 .given .1) _ _ (omega (arith, c .before .before .before .before .before .before .before .if1 .left)) ∙ c .before .before .before .before .before .before .before .before .before .before .before .loop .inv .2)
 
 pub record-networks-spec : {M : Type 1} → statement M
 record-networks-spec =
@@ -90,18 +145,31 @@ record-networks-spec =
     μ-loop
     whole-range-requires
     begin-requires
+    rows-room-requires
     mul-more
     loop-holds
-    next-requires
-    reply-of-requires
-    enum-known-offset
-    mark-requires
+    slice-aggregate-next-rows
+    next-rows-requires
+    slice-aggregate-mark-rows
+    add-mark-rows
+    mark-rows-requires
     same-length
     returns
+    slice-aggregate-mark-rows-2
+    mark-rows-requires-2
+    enum-told
     sub-left
-    sub-more
     loop-less
     loop-again
-    enum-known-recorded
+    enum-known-halt
     same-length-2
-    returns-2)
+    returns-2
+    enum-known-halt-2
+    same-length-3
+    returns-3
+    enum-told-2
+    same-length-4
+    returns-4
+    enum-told-3
+    same-length-5
+    returns-5)
