@@ -10,7 +10,7 @@ use number::room;
 use opening::{Opened, open};
 
 // Which text of the metadata is asked for. A description has a language and a text.
-#[derive(Drop)]
+#[derive(Clone, Copy)]
 pub enum Wanted {
     DatabaseType,
     Language,

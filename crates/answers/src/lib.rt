@@ -24,7 +24,7 @@ pub const PAUSED: u64 = 257;
 pub const END: u64 = 258;
 
 #[repr(C)]
-#[derive(Drop)]
+#[derive(Clone, Copy)]
 pub struct ErmOpened {
     pub status: u64,
     pub handle: Handle,
@@ -36,21 +36,21 @@ pub struct ErmOpened {
 }
 
 #[repr(C)]
-#[derive(Drop)]
+#[derive(Clone, Copy)]
 pub struct ErmAged {
     pub status: u64,
     pub seconds: i64,
 }
 
 #[repr(C)]
-#[derive(Drop)]
+#[derive(Clone, Copy)]
 pub struct ErmFound {
     pub offset: u64,
     pub second: u64,
 }
 
 #[repr(C)]
-#[derive(Drop)]
+#[derive(Clone, Copy)]
 pub struct ErmValue {
     pub kind: u64,
     pub high: u64,
@@ -59,14 +59,14 @@ pub struct ErmValue {
 }
 
 #[repr(C)]
-#[derive(Drop)]
+#[derive(Clone, Copy)]
 pub struct ErmStepped {
     pub status: u64,
     pub cursor: Cursor,
 }
 
 #[repr(C)]
-#[derive(Drop)]
+#[derive(Clone, Copy)]
 pub struct ErmNetwork {
     pub high: u64,
     pub low: u64,
@@ -76,7 +76,7 @@ pub struct ErmNetwork {
 }
 
 #[repr(C)]
-#[derive(Drop)]
+#[derive(Clone, Copy)]
 pub struct ErmCalled {
     pub status: u64,
     pub taken: u64,
@@ -84,14 +84,14 @@ pub struct ErmCalled {
 }
 
 #[repr(C)]
-#[derive(Drop)]
+#[derive(Clone, Copy)]
 pub struct ErmScratch {
     pub status: u64,
     pub words: u64,
 }
 
 #[repr(C)]
-#[derive(Drop)]
+#[derive(Clone, Copy)]
 pub struct ErmVerified {
     pub status: u64,
     pub offsets: u64,

@@ -8,13 +8,13 @@ pub const MAXIMUM_DATA_STRUCTURE_BYTES: usize = 2097152;
 
 // Values and bytes of text charged so far. No values: no map or array has been entered yet.
 #[repr(C)]
-#[derive(Drop)]
+#[derive(Clone, Copy)]
 pub struct Charge {
     pub values: usize,
     pub payload: usize,
 }
 
-#[derive(Drop)]
+#[derive(Clone, Copy)]
 pub enum Charged {
     Within(Charge),
     Over,

@@ -14,7 +14,7 @@ pub const TYPE_MAP: usize = 7;
 pub const TYPE_ARRAY: usize = 11;
 
 // The kinds of values, by the type numbers; Unknown is every number that stands for none.
-#[derive(Drop)]
+#[derive(Clone, Copy)]
 pub enum Kind {
     Pointer,
     Text,
@@ -34,7 +34,7 @@ pub enum Kind {
 
 // What a control byte says: the kind, the size, and where the payload begins.
 // A pointer has no size: its control byte's low five bits stand there.
-#[derive(Drop)]
+#[derive(Clone, Copy)]
 pub enum Head {
     At {
         kind: Kind,
@@ -45,7 +45,7 @@ pub enum Head {
 }
 
 // Where a pointer leads, and where what follows the pointer begins.
-#[derive(Drop)]
+#[derive(Clone, Copy)]
 pub enum Link {
     To { target: usize, next: usize },
     Broken,

@@ -7,14 +7,14 @@ use fields::{Got, texts};
 use metadata::Metadata;
 
 // Where the bytes of a text lie in the section.
-#[derive(Drop)]
+#[derive(Clone, Copy)]
 pub enum Span {
     At { from: usize, size: usize },
     Absent,
 }
 
 // The language of a description, and its text.
-#[derive(Drop)]
+#[derive(Clone, Copy)]
 pub struct Described {
     pub language: Span,
     pub text: Span,

@@ -28,7 +28,7 @@ use words::{WALK_WORDS, holds, load, options_of, store};
 
 // The answer of many rows.
 #[repr(C)]
-#[derive(Drop)]
+#[derive(Clone, Copy)]
 pub struct ErmFilled {
     pub status: u64,
     pub rows: u64,

@@ -12,7 +12,7 @@ use stored::{Layout, resolved, stored};
 use text::utf8;
 
 // A value that was read: its number, or how many bytes or entries it has; where its payload begins, and what follows it.
-#[derive(Drop)]
+#[derive(Clone, Copy)]
 pub enum Got {
     Is {
         value: u64,

@@ -16,7 +16,7 @@ use text::utf8;
 const MAXIMUM_SKIPPED_DATA_STRUCTURE_DEPTH: usize = 128;
 
 // What one value asks for once it is charged; `work` is what is left.
-#[derive(Drop)]
+#[derive(Clone, Copy)]
 pub enum Visit {
     Leaf {
         next: usize,
@@ -36,7 +36,7 @@ pub enum Visit {
 }
 
 // Where a value ends, and the work that is left.
-#[derive(Drop)]
+#[derive(Clone, Copy)]
 pub enum Skipped {
     To { next: usize, work: usize },
     Refused,

@@ -8,7 +8,7 @@ pub const IMAGE_BOUND: u64 = 2147483647;
 
 // IP version, node count, record size, data start, metadata start, and where IPv4 addresses start: record and depth.
 #[repr(C)]
-#[derive(Drop)]
+#[derive(Clone, Copy)]
 pub struct Handle {
     pub version: u64,
     pub nodes: u64,

@@ -6,7 +6,7 @@ use control::{TYPE_STRING, is_type};
 use stored::{Layout, resolved};
 
 // Where a key's bytes lie, and where its value begins.
-#[derive(Drop)]
+#[derive(Clone, Copy)]
 pub enum Name {
     Is {
         from: usize,

@@ -9,13 +9,13 @@ use refusal::{IPV6_IN_IPV4, RECORD};
 use tree::Answer;
 use tree::lookup::{answer, descend};
 
-#[derive(Drop)]
+#[derive(Clone, Copy)]
 pub enum Address {
     V4(u32),
     V6(u64, u64),
 }
 
-#[derive(Drop)]
+#[derive(Clone, Copy)]
 pub enum Found {
     Data { offset: u64, len: u64 },
     NoData { len: u64 },
@@ -23,7 +23,7 @@ pub enum Found {
 }
 
 // The way that an address takes: from which record, at which depth, by how many bits of which key.
-#[derive(Drop)]
+#[derive(Clone, Copy)]
 pub struct Way {
     pub start: u64,
     pub depth: u64,
@@ -31,7 +31,7 @@ pub struct Way {
     pub key: Key,
 }
 
-#[derive(Drop)]
+#[derive(Clone, Copy)]
 pub enum Asked {
     By(Way),
     Refused(u8),

@@ -16,7 +16,7 @@ const MAXIMUM_UNCHARGED_IDENTIFIER_BYTES: usize = 32;
 const WANTED: [usize; 9] = [5, 5, 9, 2, 7, 5, 11, 6, 5];
 
 // A key of the map: the number of the field that it names, 9 for none, and where its value begins.
-#[derive(Drop)]
+#[derive(Clone, Copy)]
 pub enum Key {
     Names {
         field: usize,
@@ -26,7 +26,7 @@ pub enum Key {
     NoName,
 }
 
-#[derive(Drop)]
+#[derive(Clone, Copy)]
 pub enum Pair {
     Known {
         field: usize,
@@ -43,7 +43,7 @@ pub enum Pair {
 }
 
 // A field: its number, or how many bytes or entries it has, and where its payload begins.
-#[derive(Drop)]
+#[derive(Clone, Copy)]
 pub struct Field {
     pub seen: bool,
     pub value: u64,
@@ -51,14 +51,14 @@ pub struct Field {
 }
 
 // Where the bytes or the entries of a field begin in the section, and how many there are.
-#[derive(Drop)]
+#[derive(Clone, Copy)]
 pub struct Part {
     pub from: usize,
     pub size: usize,
 }
 
 // `database` is the text of the database type; a description's size counts its pairs.
-#[derive(Drop)]
+#[derive(Clone, Copy)]
 pub struct Metadata {
     pub major: u64,
     pub minor: u64,
@@ -71,7 +71,7 @@ pub struct Metadata {
     pub size: u64,
 }
 
-#[derive(Drop)]
+#[derive(Clone, Copy)]
 pub enum Read {
     Is(Metadata),
     Wrong,

@@ -5,7 +5,7 @@ ghost use Rattle.number.specs.Bytes.{be_at};
 ghost use Rattle.number.specs.Keys.{number_of, key_of, bit_from_top, with_bit, masked_to, cleared};
 
 // An address or a key of a network: a number below 2^128.
-#[derive(Drop)]
+#[derive(Clone, Copy)]
 pub struct Key {
     pub high: u64,
     pub low: u64,

@@ -17,20 +17,20 @@ use tree::{Marked, Place};
 const LAST_TIME: u64 = 9223372036854775807;
 
 // An opened image: the numbers that its other functions take, and its metadata.
-#[derive(Drop)]
+#[derive(Clone, Copy)]
 pub struct Reader {
     pub handle: Handle,
     pub metadata: Metadata,
 }
 
-#[derive(Drop)]
+#[derive(Clone, Copy)]
 pub enum Opened {
     Is(Reader),
     Refused(u8),
 }
 
 // Seconds since the build, below zero for a time before it.
-#[derive(Drop)]
+#[derive(Clone, Copy)]
 pub enum Aged {
     Is(i64),
     Refused(u8),

@@ -13,13 +13,13 @@ use stored::{Layout, resolved};
 
 // A place of a section, and what has been charged on the way to it. A fresh one has charged nothing.
 #[repr(C)]
-#[derive(Drop)]
+#[derive(Clone, Copy)]
 pub struct Cursor {
     pub place: usize,
     pub charge: Charge,
 }
 
-#[derive(Drop)]
+#[derive(Clone, Copy)]
 pub enum Step {
     At(Cursor),
     Absent,
@@ -27,7 +27,7 @@ pub enum Step {
 }
 
 // A map or array that was entered: where its children begin, and its size.
-#[derive(Drop)]
+#[derive(Clone, Copy)]
 pub enum Inside {
     Of {
         first: usize,
@@ -38,7 +38,7 @@ pub enum Inside {
 }
 
 // One pair of a map: its key is the one that is looked for, or the next pair begins past its value.
-#[derive(Drop)]
+#[derive(Clone, Copy)]
 pub enum Pair {
     Here(Cursor),
     Not(Cursor),

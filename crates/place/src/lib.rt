@@ -14,7 +14,7 @@ use tree::record::read_node;
 use value::{Emptiness, is_empty_value_at};
 
 // A place that waits: a record's value, a key and a length. The key is the range's with the bits set that led here.
-#[derive(Drop)]
+#[derive(Clone, Copy)]
 pub struct Place {
     pub value: u64,
     pub key: Key,
@@ -22,14 +22,14 @@ pub struct Place {
 }
 
 // Include aliased networks; include networks without data; skip empty values.
-#[derive(Drop)]
+#[derive(Clone, Copy)]
 pub struct Options {
     pub aliased: bool,
     pub dataless: bool,
     pub skipempty: bool,
 }
 
-#[derive(Drop)]
+#[derive(Clone, Copy)]
 pub enum NetworkKind {
     V4,
     V6,
@@ -37,13 +37,13 @@ pub enum NetworkKind {
 }
 
 // Where a network's data stand in the data section.
-#[derive(Drop)]
+#[derive(Clone, Copy)]
 pub enum Offset {
     At(u64),
     None,
 }
 
-#[derive(Drop)]
+#[derive(Clone, Copy)]
 pub struct Network {
     pub key: Key,
     pub len: u64,
@@ -53,7 +53,7 @@ pub struct Network {
 
 // What a walk's call hands out. 11, 12 and 14 fail one place, which is gone, and the walk goes on after it; 9 and 13 refuse
 // the walk as it stands.
-#[derive(Drop)]
+#[derive(Clone, Copy)]
 pub enum Outcome {
     Given(Network),
     Failed(u8),
@@ -63,7 +63,7 @@ pub enum Outcome {
 }
 
 // What taking a place comes to: nothing, something handed out, or two children.
-#[derive(Drop)]
+#[derive(Clone, Copy)]
 pub enum Turn {
     Passed,
     Out(Outcome),

@@ -9,7 +9,7 @@ use number::be;
 const HEADER: usize = 26;
 
 // An entry, with the places of the table where its steps, its content and the next entry begin.
-#[derive(Drop)]
+#[derive(Clone, Copy)]
 pub struct Entry {
     pub question: usize,
     pub place: usize,
@@ -21,7 +21,7 @@ pub struct Entry {
     pub next: usize,
 }
 
-#[derive(Drop)]
+#[derive(Clone, Copy)]
 pub enum Found {
     Is(Entry),
     Broken,

@@ -5,7 +5,7 @@ use std::num::{wrapping_add_u64, wrapping_sub_u64};
 const SLOTS: usize = 25;
 
 // What was counted: rows by question, equal ones by question, and rows by the kind of answer that was recorded.
-#[derive(Drop)]
+#[derive(Clone, Copy)]
 pub struct Tally {
     pub rows: u64,
     pub different: u64,

@@ -16,7 +16,7 @@ use walk::rows::{Halt, NO_DATA, ROW_WORDS, next_rows};
 use walk::start::begin;
 
 // How the walk ended: behind its last network, or by a refusal.
-#[derive(Drop)]
+#[derive(Clone, Copy)]
 pub enum Recorded {
     All,
     Refused(u8),

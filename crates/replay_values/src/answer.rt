@@ -14,7 +14,7 @@ use skip::{Skipped, skip_value};
 use value::{Emptiness, Value, is_empty_value_at, part, read};
 
 // An answer as the table has it: its kind, and a number in two halves.
-#[derive(Drop)]
+#[derive(Clone, Copy)]
 struct Answer {
     kind: usize,
     high: u64,

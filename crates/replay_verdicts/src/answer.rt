@@ -12,7 +12,7 @@ const SHORT: u64 = 22;
 const LAST_OF_OPENING: u64 = 8;
 
 // The number of a refusal, 0 if accepted; the number of distinct offsets; and whether the scratch holds what it has to.
-#[derive(Drop)]
+#[derive(Clone, Copy)]
 struct Answer {
     refusal: u64,
     offsets: u64,

@@ -17,7 +17,7 @@ const FAILED: u64 = 3;
 pub const LINE: usize = 22;
 
 // A network's offset counts from 1, and 0 is no data; a failed place has its refusal there.
-#[derive(Drop)]
+#[derive(Clone, Copy)]
 pub struct Line {
     pub kind: u64,
     pub len: u64,
@@ -26,7 +26,7 @@ pub struct Line {
 }
 
 // How many lines, the sum of their numbers, and the sum of those sums, which their order changes.
-#[derive(Drop)]
+#[derive(Clone, Copy)]
 pub struct Sums {
     pub lines: u64,
     pub plain: u64,

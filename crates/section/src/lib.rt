@@ -7,7 +7,7 @@ use handle::{Handle, fits};
 use refusal::{HANDLE, OFFSET};
 
 // Whether a place may be looked at, or the number of the refusal.
-#[derive(Drop)]
+#[derive(Clone, Copy)]
 pub enum Barred {
     Free,
     By(u8),

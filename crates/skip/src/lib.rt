@@ -10,7 +10,7 @@ use stored::{Layout, stored};
 pub const MAXIMUM_SKIPPED_DATA_STRUCTURE_DEPTH: usize = 128;
 
 // A value that is come to: nothing stands inside it, or its children are charged and come next.
-#[derive(Drop)]
+#[derive(Clone, Copy)]
 pub enum Entry {
     Leaf {
         next: usize,
@@ -23,7 +23,7 @@ pub enum Entry {
     Wrong,
 }
 
-#[derive(Drop)]
+#[derive(Clone, Copy)]
 pub enum Skipped {
     Past { next: usize, charge: Charge },
     Stuck,

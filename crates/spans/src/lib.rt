@@ -16,7 +16,7 @@ use value::{Extent, payload_size};
 
 // A part of the image, counted from its first byte.
 #[repr(C)]
-#[derive(Drop)]
+#[derive(Clone, Copy)]
 pub struct Span {
     pub place: u64,
     pub length: u64,

@@ -6,13 +6,13 @@ use control::{Head, Kind, Link, TYPE_POINTER, decode_pointer, is_type, size_and_
 use number::room;
 
 // How many bytes a payload takes, if its kind allows its size.
-#[derive(Drop)]
+#[derive(Clone, Copy)]
 pub enum Body {
     Takes(usize),
     Wrong,
 }
 
-#[derive(Drop)]
+#[derive(Clone, Copy)]
 pub enum Layout {
     At {
         kind: Kind,

@@ -2,7 +2,7 @@ ghost use Rattle.std.specs.Prelude.{◌≡◌};
 ghost use Rattle.text.specs.Utf8.{ascii, first, after, well_formed};
 
 // What may come next. Bytes(need, lo, hi): so many more bytes of this character, and the next byte from lo to hi.
-#[derive(Drop)]
+#[derive(Clone, Copy)]
 enum Next {
     Bytes(u8, u8, u8),
     IllFormed,

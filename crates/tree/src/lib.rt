@@ -4,21 +4,21 @@ pub mod marker;
 pub mod record;
 
 // Where the marker stands.
-#[derive(Drop)]
+#[derive(Clone, Copy)]
 pub enum Marked {
     At(usize),
     Nowhere,
 }
 
 // Where a way down the tree stops: a record's value, and how many bits led there.
-#[derive(Drop)]
+#[derive(Clone, Copy)]
 pub struct Place {
     pub node: u64,
     pub depth: u64,
 }
 
 // What a way down ends in. `Invalid` is a record that gives no offset inside the data section.
-#[derive(Drop)]
+#[derive(Clone, Copy)]
 pub enum Answer {
     Found { offset: u64, len: u64 },
     NotFound { len: u64 },

@@ -14,7 +14,7 @@ use stored::{Layout, resolved};
 use text::utf8;
 
 // A value as it is read, or the number of the refusal. A double and a float come with their exact bits.
-#[derive(Drop)]
+#[derive(Clone, Copy)]
 pub enum Value {
     Map(usize),
     Array(usize),
@@ -131,7 +131,7 @@ pub fn read(s: &[u8], at: usize, c: Charge) -> Value
 }
 
 // How many bytes a text has, or a value of bytes: nothing for another value.
-#[derive(Drop)]
+#[derive(Clone, Copy)]
 pub enum Extent {
     Of(usize),
     Nothing,
@@ -199,7 +199,7 @@ pub fn part<'a>(s: &'a [u8], at: usize, c: Charge, bytes: bool) -> &'a [u8]
 }
 
 // Whether a map or an array without children stands at a place; the header alone decides.
-#[derive(Drop)]
+#[derive(Clone, Copy)]
 pub enum Emptiness {
     Empty,
     Holds,

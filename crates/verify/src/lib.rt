@@ -16,14 +16,14 @@ use section::data_section;
 use sweep::{verify_data_section, verify_metadata_graph};
 
 // Accepted, with the number of distinct offsets, or the number of the first refusal.
-#[derive(Drop)]
+#[derive(Clone, Copy)]
 pub enum Verified {
     Accepted(u64),
     Refused(u8),
 }
 
 // How many words of scratch an image needs.
-#[derive(Drop)]
+#[derive(Clone, Copy)]
 pub enum Words {
     Are(u64),
     Refused(u8),

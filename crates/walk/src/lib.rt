@@ -16,14 +16,14 @@ pub struct Walk {
 }
 
 // A range of addresses, with its prefix length.
-#[derive(Drop)]
+#[derive(Clone, Copy)]
 pub enum Range {
     Ipv4 { addr: u32, len: u64 },
     Ipv6 { addr: Key, len: u64 },
 }
 
 // What a range asks, whatever its width.
-#[derive(Drop)]
+#[derive(Clone, Copy)]
 pub struct Asked {
     pub key: Key,
     pub width: u64,
@@ -31,13 +31,13 @@ pub struct Asked {
 }
 
 // The place that a walk begins with, and its width.
-#[derive(Drop)]
+#[derive(Clone, Copy)]
 pub struct First {
     pub place: Place,
     pub width: u64,
 }
 
-#[derive(Drop)]
+#[derive(Clone, Copy)]
 pub enum Status {
     Begun,
     Refused(u8),

@@ -20,7 +20,7 @@ pub const ROW_WORDS: usize = 5;
 pub const NO_DATA: u64 = 18446744073709551615;
 
 // Why a call ended: no room for a further row, or as the first single call that gave no network.
-#[derive(Drop)]
+#[derive(Clone, Copy)]
 pub enum Halt {
     Full,
     Failed(u8),
@@ -29,7 +29,7 @@ pub enum Halt {
     End,
 }
 
-#[derive(Drop)]
+#[derive(Clone, Copy)]
 pub struct Filled {
     pub rows: u64,
     pub taken: u64,
