@@ -115,7 +115,7 @@ fn visit_value(s: &[u8], at: usize, work: usize) -> Visit
 }
 
 // The value that a pointer, or the tree, leads to: once.
-#[cycle(skip_value_with_verification_verify_pointer_target)]
+#[cycle(verification)]
 fn verify_pointer_target(
     s: &[u8],
     bits: &mut [u64],
@@ -147,7 +147,7 @@ fn verify_pointer_target(
 }
 
 // One value, with those inside it and those that it leads to.
-#[cycle(skip_value_with_verification_verify_pointer_target)]
+#[cycle(verification)]
 fn skip_value_with_verification(
     s: &[u8],
     bits: &mut [u64],

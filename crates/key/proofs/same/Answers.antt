@@ -1,0 +1,32 @@
+use mathlib.Core.Path.{refl, sym, ◌∙◌}
+use Prim.Native.Nat.{◌-◌}
+use native.Mathlib.Omega.{arith}
+use Rattle.key.proofs.KeyLaws as laws
+use Rattle.key.proofs.same.Goals as goal
+
+pub returns-then-x-y : goal.returns-then-x-y
+returns-then-x-y c = sym (laws.same_length _ _ c.if-x-y.true)
+
+pub loop-i-init : goal.loop-i-init
+loop-i-init c = (omega arith, refl)
+
+pub bounds-x-i : goal.bounds-x-i
+bounds-x-i c = omega arith
+
+pub bounds-y-i : goal.bounds-y-i
+bounds-y-i c = omega arith
+
+pub returns-then-x-i : goal.returns-then-x-i
+returns-then-x-i c = sym (laws.same_differ _ _ c.loop-i.i (omega arith) (omega arith) c.if-x-i.true) ∙ c.loop-i.invariant.1
+
+pub overflow_add-i : goal.overflow_add-i
+overflow_add-i c = omega arith
+
+pub loop-i-smaller : goal.loop-i-smaller
+loop-i-smaller c = omega arith
+
+pub loop-i-preserved : goal.loop-i-preserved
+loop-i-preserved c = (omega arith, sym (laws.same_next _ _ c.loop-i.i (omega arith) (omega arith) c.if-x-i.false) ∙ c.loop-i.invariant.1)
+
+pub returns : goal.returns
+returns c = sym (laws.same_end _ _ c.loop-i.i (omega arith) (omega arith)) ∙ c.loop-i.invariant.1
