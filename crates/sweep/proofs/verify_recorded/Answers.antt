@@ -1,6 +1,5 @@
 use borrow.Author.Rules.{rules}
 use mathlib.Core.Path.{◌≡◌, ◌∙◌, sym, refl}
-use mathlib.Core.Logic.{⊎_elim}
 use Prim.Native.Nat.{◌+◌, ◌-◌}
 use native.Mathlib.Omega.{arith}
 use native.Mathlib.Nat.{sub-zero}
@@ -12,6 +11,7 @@ use Rattle.graph.specs.Words.{on_words}
 use Rattle.sweep.specs.Sweep.{sweep_at}
 use Rattle.sweep.proofs.SweepLaws.{sweep_turn, sweep_pass, sweep_stop, sweep_end, pass_to}
 use Rattle.sweep.proofs.verify_recorded.Goals as goal
+use Rattle.sweep.proofs.verify_recorded.Goals.{then-state-eq-RECORDED+in-To, else-state-eq-RECORDED}
 
 pub loop-t-init : goal.loop-t-init
 loop-t-init c = (search rules, refl, rw sub-zero)
@@ -29,7 +29,7 @@ returns-in_default c =
 
 pub next_marked-requires : goal.next_marked-requires
 next_marked-requires c =
-    let long : length c.if-state-eq-RECORDED.bits ≡ length c.loop-t.bits = ⊎_elim (λ w. rw w.8 w.2.kept.1.0) (λ w. rw w.1 refl) c.if-state-eq-RECORDED.branch in
+    let long : length c.if-state-eq-RECORDED.bits ≡ length c.loop-t.bits = elim c.if-state-eq-RECORDED.branch [ then-state-eq-RECORDED+in-To w ↦ rw w.bits-is w.skip_value_for_verification.auto.bits | else-state-eq-RECORDED w ↦ rw w.bits-is refl ] in
     (omega (arith, c.loop-t-test.true, c.loop-t.invariant.1, c.requires), omega (arith, c.loop-t-test.true, c.requires))
 
 pub loop-t-smaller : goal.loop-t-smaller
@@ -39,14 +39,16 @@ pub loop-t-preserved : goal.loop-t-preserved
 loop-t-preserved c =
     let s = c.args.s.now in
     let long : length c.if-state-eq-RECORDED.bits ≡ length c.args.bits.now =
-    ⊎_elim (λ w. rw w.8 (w.2.kept.1.0 ∙ c.loop-t.invariant.1)) (λ w. rw w.1 c.loop-t.invariant.1) c.if-state-eq-RECORDED.branch in
+    elim c.if-state-eq-RECORDED.branch [ then-state-eq-RECORDED+in-To w ↦ rw w.bits-is (w.skip_value_for_verification.auto.bits ∙ c.loop-t.invariant.1) | else-state-eq-RECORDED w ↦ rw w.bits-is c.loop-t.invariant.1 ] in
     let on : sweep_at on_words (verify_at on_words s) (length s - (c.loop-t.t + 1)) (c.loop-t.t + 1) c.if-state-eq-RECORDED.left c.if-state-eq-RECORDED.bits ≡ sweep_at on_words (verify_at on_words s) (length s) 0 c.args.work c.args.bits.now =
-    ⊎_elim
-    (λ w. rw (w.8, w.9)
-    (sweep_turn on_words (verify_at on_words s) (length s) c.loop-t.t c.loop-t.left c.loop-t.bits _ c.loop-t-test.true c.loop-t.invariant.2 (eq-eqb _ 1 (sym c.state.ensures ∙ w.0.taken)) w.2.result w.2.last.1.0 w.2.ensures _ _ w.6.given.1))
-    (λ w. rw (w.1, w.2)
-    (sweep_pass on_words (verify_at on_words s) (length s) c.loop-t.t c.loop-t.left c.loop-t.bits _ c.loop-t-test.true c.loop-t.invariant.2 (ne_eqb _ 1 (λ q. w.0.left (c.state.ensures ∙ q)))))
-    c.if-state-eq-RECORDED.branch in
+    elim c.if-state-eq-RECORDED.branch [
+      | then-state-eq-RECORDED+in-To w ↦
+          rw (w.bits-is, w.left-is)
+          (sweep_turn on_words (verify_at on_words s) (length s) c.loop-t.t c.loop-t.left c.loop-t.bits _ c.loop-t-test.true c.loop-t.invariant.2 (eq-eqb _ 1 (sym c.state.ensures ∙ w.if-state-eq-RECORDED.true)) w.skip_value_for_verification.result w.skip_value_for_verification.new.bits w.skip_value_for_verification.ensures _ _ w.in-To.is)
+      | else-state-eq-RECORDED w ↦
+          rw (w.bits-is, w.left-is)
+          (sweep_pass on_words (verify_at on_words s) (length s) c.loop-t.t c.loop-t.left c.loop-t.bits _ c.loop-t-test.true c.loop-t.invariant.2 (ne_eqb _ 1 (λ q. w.if-state-eq-RECORDED.false (c.state.ensures ∙ q))))
+    ] in
     let after = next_after c.if-state-eq-RECORDED.bits c.loop-t.t in (
       omega (arith, c.least-t.ensures),
       long,
