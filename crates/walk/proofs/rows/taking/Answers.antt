@@ -3,7 +3,6 @@ use mathlib.Core.Path.{◌≡◌, refl, sym}
 use mathlib.Core.Bool.{Bool, true, false, cond}
 use mathlib.Core.List.{List}
 use native.Mathlib.Omega.{arith}
-use borrow.Author.Rules.{rules}
 use borrow.Author.Tests.{le-ltb, le-leb, not-true}
 use Rattle.handle.specs.declared.Handle.{Handle}
 use Rattle.tree.specs.Lookup.{answer_of}
@@ -12,8 +11,7 @@ use Rattle.place.specs.declared.Place.{Place}
 use Rattle.place.specs.declared.Turn.TheVariants.{Passed}
 use Rattle.place.specs.Kinds.{is_skipped}
 use Rattle.place.specs.Turns.{turn_of}
-use Rattle.walk.proofs.rows.taking.Statement.{statement}
-use Rattle.walk.proofs.rows.taking.Tie as tie
+use Rattle.walk.proofs.rows.taking.Goals as goal
 
 module _ (d : List ℕ) (h : Handle) (o : Options) (width : ℕ) (p : Place) where
   -- a place without data is passed, skipped or not
@@ -26,14 +24,5 @@ module _ (d : List ℕ) (h : Handle) (o : Options) (width : ℕ) (p : Place) whe
       by true = refl
       by false = refl
 
-returns : tie.Need-returns
-returns c = sym (passes-empty _ _ _ _ _ c.before.before.if1.true (not-true _ c.if2.true))
-
-visit-requires : tie.Need-visit-requires
-visit-requires c κs = search rules
-
-returns-2 : tie.Need-returns-2
-returns-2 c = search rules
-
-pub taking-spec : {M : Type 1} → statement M
-taking-spec = tie.close (tie.spec returns visit-requires returns-2)
+pub returns-then-not-options : goal.returns-then-not-options
+returns-then-not-options c = sym (passes-empty _ _ _ _ _ c.if-p-h.true (not-true _ c.if-not-options.true))
