@@ -16,8 +16,8 @@ use Rattle.recording.proofs.record_networks.Goals.{After-next_rows-filled}
 abbrev call : (c : After-next_rows-filled) → Poured
 call c = poured c.next_rows-filled.result c.next_rows-filled.new.out
 
-abbrev Sweeps : tie.After-next-rows invariant-loop decreases-loop → Type 0
-Sweeps c = Swept c.before.before.before.before.before.before.before.before.before.before.args.image.now c.before.before.before.before.before.before.before.before.before.before.args.h c.before.before.loop.left c.before.before.loop.walk 256 (call c)
+abbrev Sweeps : After-next_rows-filled → Type 0
+Sweeps c = Swept c.args.image.now c.args.h c.loop-more.left c.loop-more.walk 256 (call c)
 
 sweeps : (c : After-next_rows-filled) → Sweeps c
 sweeps c =
@@ -51,7 +51,7 @@ pub overflow_add-more : goal.overflow_add-more
 overflow_add-more c = let l : c.next_rows-filled.result.rows ≤ 256 = few (goal.at.overflow_add-more c).After-next_rows-filled in omega (arith, c.if-more-n.true, l)
 
 pub mark_rows-requires : goal.mark_rows-requires
-mark_rows-requires c = let l : c.next_rows-filled.result.rows ≤ 256 = few (goal.at.mark_rows-requires c).After-next_rows-filled in (omega (arith, c.if-more-n.true, l, lasts (goal.at.mark_rows-requires c).After-next_rows-filled), (sweeps (goal.at.mark_rows-requires c).After-next_rows-filled).below _ _ (room (goal.at.mark_rows-requires c).After-next_rows-filled) (omega (arith, c.if-more-n.true)))
+mark_rows-requires c = let l : c.next_rows-filled.result.rows ≤ 256 = few (goal.at.mark_rows-requires c).After-next_rows-filled in record { n_in_bounds = omega (arith, c.if-more-n.true, l, lasts (goal.at.mark_rows-requires c).After-next_rows-filled); below = (sweeps (goal.at.mark_rows-requires c).After-next_rows-filled).below _ _ (room (goal.at.mark_rows-requires c).After-next_rows-filled) (omega (arith, c.if-more-n.true)) }
 
 pub returns-then-more-n : goal.returns-then-more-n
 returns-then-more-n c = rw c.mark_rows.ensures ((sweeps (goal.at.returns-then-more-n c).After-next_rows-filled).over _ _ c.if-more-n.true ∙ c.loop-more.invariant.2)
@@ -60,7 +60,7 @@ pub slice_bounds-mark_rows-end-in-loop-more : goal.slice_bounds-mark_rows-end-in
 slice_bounds-mark_rows-end-in-loop-more c = sym (lasts (goal.at.slice_bounds-mark_rows-end-in-loop-more c).After-next_rows-filled)
 
 pub mark_rows-requires-in-loop-more : goal.mark_rows-requires-in-loop-more
-mark_rows-requires-in-loop-more c = let l : c.next_rows-filled.result.rows ≤ 256 = few (goal.at.mark_rows-requires-in-loop-more c).After-next_rows-filled in (omega (arith, l, lasts (goal.at.mark_rows-requires-in-loop-more c).After-next_rows-filled), (sweeps (goal.at.mark_rows-requires-in-loop-more c).After-next_rows-filled).below _ _ (room (goal.at.mark_rows-requires-in-loop-more c).After-next_rows-filled) (omega arith))
+mark_rows-requires-in-loop-more c = let l : c.next_rows-filled.result.rows ≤ 256 = few (goal.at.mark_rows-requires-in-loop-more c).After-next_rows-filled in record { n_in_bounds = omega (arith, l, lasts (goal.at.mark_rows-requires-in-loop-more c).After-next_rows-filled); below = (sweeps (goal.at.mark_rows-requires-in-loop-more c).After-next_rows-filled).below _ _ (room (goal.at.mark_rows-requires-in-loop-more c).After-next_rows-filled) (omega arith) }
 
 pub overflow_sub-left : goal.overflow_sub-left
 overflow_sub-left c = (sweeps (goal.at.overflow_sub-left c).After-next_rows-filled).paid
