@@ -1,4 +1,6 @@
 // The texts of an image's metadata, as parts of the image.
+#![tactic(auto)]
+
 ghost use Rattle.std.specs.Prelude.{◌≡◌, ◌+◌, ◌≤◌, length};
 ghost use Rattle.handle.specs.Handle.{image_bound};
 ghost use Rattle.entries.specs.declared.Span.TheVariants.{At};

@@ -1,1 +1,3 @@
+#![tactic(auto)]
+
 // No code: what holds of an image that verification accepts, and of the lent scratch.

@@ -1,4 +1,6 @@
 // The answers as structs of numbers, in the layout of C: include/ermopinaw.h says what each number means.
+#![tactic(auto)]
+
 ghost use Rattle.std.specs.Prelude.{◌≡◌, cond};
 ghost use Rattle.answers.specs.Answers.{opened_of, aged_of, found_of, unsigned_of, valued_of, nowhere_of, stepped_of, status_of, network_of, without_of, called_of, halted_of, scratch_of, verified_of};
 

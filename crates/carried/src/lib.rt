@@ -1,1 +1,3 @@
+#![tactic(auto)]
+
 // No code: what holds of every walk that is begun here and carried on.

@@ -1,4 +1,6 @@
 // What one operation has charged against the decoder's limits.
+#![tactic(auto)]
+
 ghost use Rattle.std.specs.Prelude.{◌≡◌};
 ghost use Rattle.charge.specs.Charge.{since_entry, room_left, entered, paid};
 

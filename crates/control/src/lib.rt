@@ -1,4 +1,6 @@
 // Control bytes of a section: kind, size, pointers. A section is a slice; places count from its start.
+#![tactic(auto)]
+
 ghost use Rattle.std.specs.Prelude.{◌≡◌, ◌≤◌, ◌<◌, ◌^◌};
 ghost use Rattle.control.specs.Control.{kind_of, type_number, is_type, more_at, size_at, sized_at, head_at};
 ghost use Rattle.control.specs.Pointers.{far_at, link_at, on_target, behind_at};

@@ -1,4 +1,6 @@
 // The languages and the descriptions of the metadata, by index.
+#![tactic(auto)]
+
 ghost use Rattle.std.specs.Prelude.{◌≡◌, ◌+◌, ◌<◌};
 ghost use Rattle.entries.specs.Entries.{span_of, last_of, language_of, description_of};
 

@@ -1,5 +1,7 @@
 // The functions for C, which `exports_c` exports: include/ermopinaw.h. Each calls one public entry and hands its answer on as
 // numbers. What C can write and no entry takes is refused with 13 first, and nothing lent is written.
+#![tactic(auto)]
+
 ghost use Rattle.std.specs.Prelude.{◌≡◌, true, false};
 ghost use Rattle.opening.specs.Opening.{open_of, age_of};
 ghost use Rattle.about.specs.About.{text_of};

@@ -1,4 +1,6 @@
 // The value of one field of the metadata.
+#![tactic(auto)]
+
 ghost use Rattle.std.specs.Prelude.{◌≡◌, ◌+◌, ◌≤◌, length};
 ghost use Rattle.stored.specs.Stored.{Lies};
 ghost use Rattle.fields.specs.Fields.{text_paid, text_of, text_at, texts_at, past_at, entries_of, value_of, value_at};

@@ -1,4 +1,6 @@
 // The value graph of a section, as verification walks it. The scratch has the state of each place.
+#![tactic(auto)]
+
 ghost use Rattle.std.specs.Prelude.{◌≡◌, ◌+◌, ◌≤◌, length};
 ghost use Rattle.stored.specs.Stored.{Lies};
 ghost use Rattle.graph.specs.Visit.{text_of, on_link, by_kind, visit_at};

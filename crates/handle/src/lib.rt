@@ -1,5 +1,7 @@
 // The numbers of an opened image, and when they fit an image. Chains of tests nest to the right, so that each way out of
 // one is a return of its own and its proof a line.
+#![tactic(auto)]
+
 ghost use Rattle.std.specs.Prelude.{◌≡◌, true};
 ghost use Rattle.handle.specs.Handle.{version_known, size_known, numbers_known, sections_fit, ipv4_fits, fits_of};
 

@@ -1,4 +1,6 @@
 // The keys of maps: texts, behind at most one pointer, compared byte by byte and not looked into.
+#![tactic(auto)]
+
 ghost use Rattle.std.specs.Prelude.{◌≡◌, ◌+◌, ◌≤◌, length, take, drop};
 ghost use Rattle.key.specs.Keys.{same_bytes, name_at};
 

@@ -1,7 +1,6 @@
 -- Lookups: docs/SCOPE.md, "The tree".
 use Rattle.std.specs.Prelude.{ℕ, ◌+◌, ◌-◌, ◌≤◌, List, cond, eqb}
 use Rattle.number.specs.Keys.{number_of}
-use Rattle.number.specs.declared.Key.{Key}
 use Rattle.refusal.specs.Refusals as refusal
 use Rattle.handle.specs.declared.Handle.{Handle}
 use Rattle.tree.specs.Lookup.{down, answer_of}

@@ -1,4 +1,6 @@
 // The answer of a lookup in an image that a handle fits.
+#![tactic(auto)]
+
 ghost use Rattle.std.specs.Prelude.{◌≡◌, true, length};
 ghost use Rattle.handle.specs.Handle.{fits_of};
 ghost use Rattle.lookup.specs.Lookup.{Fitting, numbered, asked_of, found_from};

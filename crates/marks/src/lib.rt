@@ -1,4 +1,6 @@
 // The lent scratch: the state of each place of a section, two bits for each.
+#![tactic(auto)]
+
 ghost use Rattle.std.specs.Prelude.{◌≡◌, ◌++◌, ◌+◌, ◌*◌, ◌/◌, ◌^◌, ◌<◌, ◌≤◌, length, drop, replicate};
 ghost use Rattle.marks.specs.Marks.{bit, put, state_at, set_state, marked, next_marked, size_of};
 

@@ -1,4 +1,6 @@
 // The public entry points. Each refuses as docs/SCOPE.md says, in its order, and calls one layer; none asks anything of its caller.
+#![tactic(auto)]
+
 ghost use Rattle.std.specs.Prelude.{◌≡◌, true, false, ◌+◌};
 ghost use Rattle.opening.specs.Opening.{open_of, age_of};
 ghost use Rattle.about.specs.About.{text_of};

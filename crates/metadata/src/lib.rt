@@ -1,4 +1,6 @@
 // The metadata, decoded into the fields of `metadata.rs`.
+#![tactic(auto)]
+
 ghost use Rattle.std.specs.Prelude.{◌≡◌, cond, ◌-◌, ◌<◌};
 ghost use Rattle.metadata.specs.Names.{field_of, want_of};
 ghost use Rattle.metadata.specs.Metadata.{key_paid, key_at, pair_at, all_seen, part_of, whole_of, gather, none_seen, metadata_of};

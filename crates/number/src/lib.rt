@@ -1,4 +1,6 @@
 // Numbers in bytes, highest byte first, and keys of 128 bits in two halves.
+#![tactic(auto)]
+
 ghost use Rattle.std.specs.Prelude.{◌≡◌, ◌+◌, ◌*◌, ◌^◌, ◌≤◌, ◌<◌, leb, length};
 ghost use Rattle.std.specs.Int.Bits.{bit_or};
 ghost use Rattle.number.specs.Bytes.{be_at};

@@ -1,4 +1,6 @@
 // Opening an image, and its age.
+#![tactic(auto)]
+
 ghost use Rattle.std.specs.Prelude.{◌≡◌, ◌+◌, ◌*◌, ◌/◌, ◌≤◌, ◌<◌, leb, pos, ◌-ℤ◌, length};
 ghost use Rattle.tree.specs.Record.{Sized};
 ghost use Rattle.tree.specs.Lookup.{Tree};

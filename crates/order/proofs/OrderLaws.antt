@@ -4,9 +4,9 @@ use mathlib.Core.Path.{◌≡◌, refl, sym, subst, ◌∙◌}
 use mathlib.Core.Bool.{Bool, true, false, cond}
 use mathlib.Core.Logic.Iff
 use mathlib.Core.Logic.{◌↔◌, inl, inr}
-use mathlib.Core.List.{List, [], ◌∷◌, ◌++◌}
+use mathlib.Core.List.{[], ◌∷◌, ◌++◌}
 use native.Mathlib.Omega.{arith}
-use Rattle.order.specs.Order.{Verdict, Answers, Refuses, Ends, Pauses, Table, First, None, Refusing, Exactly}
+use Rattle.order.specs.Order.{Verdict, Answers, Refuses, Table, First, None, Refusing, Exactly}
 
 pub one_verdict : (t : Table) (v w : Verdict) → First t v → First t w → v ≡ w
 one_verdict [] v w e f = e ∙ sym f

@@ -12,7 +12,7 @@ use Rattle.key.specs.declared.Name.TheVariants as name
 use Rattle.value.specs.Value.{read_at}
 use Rattle.value.specs.declared.Value.{Value}
 use Rattle.value.specs.declared.Value.TheVariants as value
-use Rattle.path.specs.Steps.{cursor, key_step, index_step}
+use Rattle.path.specs.Steps.{key_step, index_step}
 use Rattle.path.specs.declared.Cursor.{Cursor}
 use Rattle.path.specs.declared.Step.{Step}
 use Rattle.path.specs.declared.Step.TheVariants as step

@@ -1,4 +1,6 @@
 // Stepping into a value: into a map by key, into an array by index.
+#![tactic(auto)]
+
 ghost use Rattle.std.specs.Prelude.{◌≡◌, ◌≤◌};
 ghost use Rattle.skip.specs.Skip.{many, skipped_at};
 ghost use Rattle.skip.specs.declared.Skipped.TheVariants as skipped;

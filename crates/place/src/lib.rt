@@ -1,4 +1,6 @@
 // One place of a walk: whether it is in shape, its children, and what taking it comes to.
+#![tactic(auto)]
+
 ghost use Rattle.std.specs.Prelude.{◌≡◌, ◌≤◌, ◌<◌, length};
 ghost use Rattle.tree.specs.Record.{Readable};
 ghost use Rattle.place.specs.Kinds.{is_ipv4_in_ipv6, has_ipv4_subtree, is_alias, is_skipped, in_ipv4_subtree, kind_of};

@@ -14,7 +14,7 @@ use Rattle.handle.specs.declared.Handle.{Handle}
 use Rattle.handle.proofs.HandleLaws.{fit}
 use Rattle.tree.specs.Lookup.{down}
 use Rattle.tree.specs.declared.Place as tree
-use Rattle.tree.proofs.LookupLaws.{place, deeper, down_end, ipv4_way_to}
+use Rattle.tree.proofs.LookupLaws.{deeper, down_end, ipv4_way_to}
 use Rattle.tiles.specs.Lists.{All, only}
 use Rattle.tiles.specs.Tiles.{Tile, tile, leaves, networks}
 use Rattle.tiles.proofs.ListLaws.{all_map}

@@ -22,7 +22,7 @@ use Rattle.walk.specs.declared.Walk.{Walk}
 use Rattle.walk.specs.declared.rows.Halt.{Halt}
 use Rattle.walk.specs.declared.rows.Halt.TheVariants as halt
 use Rattle.walk.specs.Calls.{data_section, next_of}
-use Rattle.walk.specs.Rows.{no_data, kind_number, offset_word, put, put_all, Run, ended, on_answer, run_of, Poured, poured, pouring, rows_of}
+use Rattle.walk.specs.Rows.{no_data, kind_number, offset_word, put, put_all, Run, on_answer, run_of, Poured, poured, pouring, rows_of}
 use Rattle.carried.proofs.Paused.{within_budget}
 use Rattle.recording.specs.declared.Recorded.{Recorded}
 use Rattle.recording.specs.declared.Recorded.TheVariants.{All, Refused}

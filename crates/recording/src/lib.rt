@@ -1,4 +1,6 @@
 // The tree walk of verification: the offset of each network with data is recorded in the scratch.
+#![tactic(auto)]
+
 ghost use Rattle.std.specs.Prelude.{◌≡◌, true, ◌*◌, ◌/◌, ◌≤◌, length};
 ghost use Rattle.handle.specs.Handle.{fits_of};
 ghost use Rattle.marks.specs.Marks.{record_each, Below};

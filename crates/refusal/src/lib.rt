@@ -1,3 +1,5 @@
+#![tactic(auto)]
+
 // The refusal numbers, by name.
 pub const NO_MARKER: u8 = 1;
 

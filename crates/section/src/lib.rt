@@ -1,4 +1,6 @@
 // The data section of an image that a handle fits, and the refusals before a value is looked at.
+#![tactic(auto)]
+
 ghost use Rattle.std.specs.Prelude.{◌≡◌, true, ◌+◌, length};
 ghost use Rattle.handle.specs.Handle.{fits_of};
 ghost use Rattle.section.specs.Section.{section_of, barred_of};

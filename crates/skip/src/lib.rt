@@ -1,4 +1,6 @@
 // Passing over a value.
+#![tactic(auto)]
+
 ghost use Rattle.std.specs.Prelude.{◌≡◌, ◌≤◌};
 ghost use Rattle.skip.specs.Skip.{nest_of, entry_of, entry_at, skip_at, skipped_at};
 

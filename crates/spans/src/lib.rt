@@ -1,4 +1,6 @@
 // Where texts and bytes lie in an image, in numbers: for callers to whom no part of the image can be handed.
+#![tactic(auto)]
+
 ghost use Rattle.std.specs.Prelude.{◌≡◌, ◌+◌, ◌≤◌};
 ghost use Rattle.handle.specs.Handle.{image_bound};
 ghost use Rattle.about.specs.About.{text_of};

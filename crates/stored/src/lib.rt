@@ -1,4 +1,6 @@
 // How a value lies in a section: its kind, its size, its payload, and where the next value begins.
+#![tactic(auto)]
+
 ghost use Rattle.std.specs.Prelude.{◌≡◌};
 ghost use Rattle.stored.specs.Stored.{up_to, exactly, body_of, lying_at, stored_at, on_target, resolved_at};
 

@@ -12,7 +12,6 @@ use Rattle.number.proofs.Tests.{chosen, chosen_first}
 use Rattle.control.specs.Control.{head_at, type_number, is_type, is_pointer}
 use Rattle.control.specs.Pointers.{far_at, link_at}
 use Rattle.control.specs.declared.Kind.{Kind}
-use Rattle.control.specs.declared.Kind.TheVariants as kind
 use Rattle.control.specs.declared.Head as head
 use Rattle.control.specs.declared.Link as link
 use Rattle.stored.specs.Stored.{body_of, placed_at, lying_at, on_head, stored_at}

@@ -1,4 +1,6 @@
 // The graphs of whole sections: all places that the tree recorded, and the metadata's one value.
+#![tactic(auto)]
+
 ghost use Rattle.std.specs.Prelude.{◌≡◌, ◌^◌, ◌≤◌, ◌<◌, min, length};
 ghost use Rattle.graph.specs.Graph.{res, verify_at};
 ghost use Rattle.graph.specs.Words.{on_words, needed};

@@ -1,4 +1,6 @@
 // The search tree: its records, the way down it, and the marker that ends the data section.
+#![tactic(auto)]
+
 pub mod lookup;
 pub mod marker;
 pub mod record;

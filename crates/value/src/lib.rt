@@ -1,4 +1,6 @@
 // The reading of one value.
+#![tactic(auto)]
+
 ghost use Rattle.std.specs.Prelude.{◌≡◌, ◌+◌, ◌≤◌, length};
 ghost use Rattle.stored.specs.Stored.{Lies};
 ghost use Rattle.value.specs.Numbers.{signed32, double_of, float_of, wide_at};

@@ -1,4 +1,6 @@
 // Verification of a whole image, with lent scratch.
+#![tactic(auto)]
+
 ghost use Rattle.std.specs.Prelude.{◌≡◌, true, ◌-◌, ◌≤◌, max, length, replicate};
 ghost use Rattle.handle.specs.Handle.{fits_of, image_bound};
 ghost use Rattle.graph.specs.Words.{needed};

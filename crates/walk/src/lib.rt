@@ -1,4 +1,6 @@
 // A walk over the networks of a range: its start, and its call with a budget.
+#![tactic(auto)]
+
 pub mod call;
 pub mod rows;
 pub mod start;

@@ -1,4 +1,6 @@
 // A walk in lent words: four for each of its 129 places, then its count, its width and its options.
+#![tactic(auto)]
+
 ghost use Rattle.std.specs.Prelude.{◌≡◌, true, ◌+◌, ◌*◌, ◌≤◌, ◌<◌, length};
 ghost use Rattle.words.specs.Words.{options_of, bit_of, options_number, holds_walk, place_at, walk_of, put_place, held};
 

@@ -1,2 +1,4 @@
+#![tactic(auto)]
+
 // No code: images opened by hand, as theorems of proofs/.
 pub fn nothing() {}

@@ -1,1 +1,3 @@
+#![tactic(auto)]
+
 // No code: images verified by hand, as theorems of proofs/.

@@ -1,7 +1,6 @@
 -- By the three cases of the definition: a first byte, one that is asked for, and any other.
 use borrow.Author.Tests.{ne_eqb, leb-true, leb-false}
 use native.Mathlib.Omega.{arith}
-use mathlib.Core.Logic.{⊎_elim}
 use Rattle.text.proofs.Laws.{in_yes, in_no}
 use Rattle.text.proofs.after.Goals as goal
 use Rattle.text.proofs.after.Goals.{else-lo-b-via-then-lo-b+else-b-hi, else-lo-b-via-else-lo-b}

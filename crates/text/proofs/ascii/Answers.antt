@@ -1,9 +1,7 @@
 use borrow.Author.Rules.{rules}
 use borrow.Author.Tests.{le-leb, lt-leb}
-use Prim.Native.Nat.{◌-◌}
 use native.Mathlib.Omega.{arith}
 use mathlib.Core.Path.{refl, ◌∙◌, sym}
-use mathlib.Core.Logic.{⊎_elim}
 use mathlib.Core.Bool.{true, false, and-true, and-false}
 use lib.ListN.{get_or}
 use Rattle.text.proofs.Laws.{ascii_at, ascii_end}

@@ -1,7 +1,5 @@
 use native.Mathlib.Omega.{arith}
-use Prim.Native.Nat.{◌-◌}
 use mathlib.Core.Path.{◌≡◌, sym}
-use mathlib.Core.Bool.{true}
 use Rattle.tree.proofs.MarkerLaws.{agree_none, agree_more, agree_stop}
 use Rattle.tree.proofs.marker.stands.Goals as goal
 
