@@ -9,7 +9,7 @@ use walk::Walk;
 const CALLS: u64 = 1000000;
 
 // Whether it goes on, and whether all was as recorded so far; the place of the next recorded line, and the sums.
-#[derive(Drop)]
+#[derive(Clone, Copy)]
 pub struct Trace {
     pub going: bool,
     pub equal: bool,
