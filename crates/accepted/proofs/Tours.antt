@@ -20,7 +20,7 @@ use Rattle.place.specs.declared.Network.{Network}
 use Rattle.place.specs.declared.Offset.{Offset}
 use Rattle.place.specs.declared.Offset.TheVariants.{At, None}
 use Rattle.place.specs.declared.Outcome.{Outcome}
-use Rattle.place.specs.declared.Outcome.TheVariants.{Given, Failed, Paused, End}
+use Rattle.place.specs.declared.Outcome.TheVariants.{Given, Failed, Refused, Paused, End}
 use Rattle.place.specs.declared.Turn.{Turn}
 use Rattle.place.specs.declared.Turn.TheVariants.{Passed, Out, Opened}
 use Rattle.walk.specs.declared.Range.TheVariants.{Ipv4, Ipv6}
@@ -363,6 +363,7 @@ module _ (s : List ℕ) (h : Handle) where
       by_sort more rest (Failed j) e too_deep on = rw e (refused refusal.too_deep too_deep_lem [])
       by_sort more rest Paused e paused on = rw e (refused refusal.budget budget_spent [])
       by_sort more rest End e end on = at_end more rest e
+      by_sort more rest (Refused _) e x on = elim x [ ]
 
     tours : (more b : ℕ) (w : Walk) → Own w → Ends more w (toured s h more b w)
     unfolding toured

@@ -124,7 +124,7 @@ module _ {S : Type 0} (m : Marks S) (s : List ℕ) (Q : ℕ → Path S) (holds :
   -- one value
   pub skip_walked : (l p w next w' : ℕ) (x y : S) → skip_at m l s p w x ≡ res (To next w') y → Q l p next x y
   unfolding skip_at
-  skip_walked zero p w next w' x y e = flat zero p w next w' x y (visit_at s p w) refl _ e
+  skip_walked zero p w next w' x y e = flat zero p w next w' x y (visit_at s p w) refl (λ q v z. res Refused z) e
   skip_walked (suc l) p w next w' x y e = deep l p w next w' x y (visit_at s p w) refl (skip_at m l s) (skip_walked l) e
 
   -- a value that the tree leads to

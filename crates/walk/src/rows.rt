@@ -29,7 +29,7 @@ pub enum Halt {
     End,
 }
 
-#[derive(Clone, Copy)]
+#[derive(Drop)]
 pub struct Filled {
     pub rows: u64,
     pub taken: u64,
