@@ -2,7 +2,7 @@
  * Ermopinaw for C: reads MaxMind DB images that lie in memory.
  *
  * Every function is proved to answer as docs/SCOPE.md says, for every input: link libexports.a, which
- * `rt staticlib exports` writes to target/staticlib (x86-64 Linux).
+ * `tools/staticlib` writes to target/staticlib (x86-64 Linux).
  *
  * What a caller owes, and nothing else:
  * - a pointer that comes with a length points to that many bytes (or words of 64 bits, aligned to 8), readable,

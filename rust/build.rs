@@ -17,7 +17,7 @@ fn main() {
     println!("cargo:rerun-if-changed={}", archive.display());
     if !archive.is_file() {
         eprintln!("There is no {}.", archive.display());
-        eprintln!("`rt staticlib exports` in the repository's root proves and writes it, and so does ./build;");
+        eprintln!("`tools/staticlib` in the repository's root proves and writes it, and so does ./build;");
         eprintln!("or set {VARIABLE} to the folder that has it.");
         process::exit(1);
     }

@@ -29,7 +29,7 @@ class Sides:
             self.crate = os.path.join(work, 'oracle', 'oracle')
         archive = os.path.join(ROOT, 'target', 'staticlib', 'libexports.a')
         if not os.path.exists(archive):
-            subprocess.run(['rt', 'staticlib', 'exports'], cwd=ROOT, check=True, stdout=sys.stderr)
+            subprocess.run([os.path.join(ROOT, 'tools', 'staticlib')], check=True, stdout=sys.stderr)
         self.ours = os.path.join(work, 'answer')
         subprocess.run(['cc', '-O2', '-Wall', '-Wextra', '-I', os.path.join(ROOT, 'include'), '-o', self.ours,
                         os.path.join(HERE, 'answer.c'), archive], check=True)

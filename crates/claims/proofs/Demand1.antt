@@ -60,7 +60,7 @@ use Rattle.promises.proofs.Texts as texts
 use Rattle.promises.proofs.Starts as starts
 use Rattle.promises.proofs.Calls as calls
 use Rattle.promises.proofs.Verifying as verifying
-use Rattle.claims.specs.Promised.{Slice, Leaves, Meets, Bytes, Given}
+use Rattle.claims.specs.Promised.{Slice, MutSlice, Leaves, Meets, Bytes, Given}
 
 -- a part that the contract pins, and what it is
 given :
@@ -159,7 +159,7 @@ module _ (image : Slice) where
 
   -- VERIFY: 24, 1 to 8, 22, 14, 17, 18, the walk's 11, 12, 19, 21 as they come, 20, 14; with the lent words afterwards
   pub verify_decided :
-      Bytes image → (scratch after : Slice) (budget : ℕ) (r : Verified)
+      Bytes image → (scratch after : MutSlice) (budget : ℕ) (r : Verified)
       → Leaves verify.Post (image, (scratch, (budget, tt))) r (image, (after, (budget, tt)))
       → Verifies image.now scratch.now budget (out r after.now)
   verify_decided held scratch after budget r m =

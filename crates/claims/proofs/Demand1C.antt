@@ -67,7 +67,7 @@ use Rattle.exports.proofs.erm_next.Reads as next
 use Rattle.exports.proofs.erm_rows.Reads as rows
 use Rattle.exports.proofs.erm_scratch_words.Reads as scratch_words
 use Rattle.exports.proofs.erm_verify.Reads as verify
-use Rattle.claims.specs.Promised.{Slice, Leaves, Meets, Bytes}
+use Rattle.claims.specs.Promised.{Slice, MutSlice, Leaves, Meets, Bytes}
 use Rattle.claims.specs.Statuses.{Shows, door, found_status, value_status, ShowsStep, ShowsCall, ShowsRows, Keeps}
 use Rattle.claims.proofs.StatusLaws.{AllNumbered, number, shows, door_shows, chosen, opened_status, aged_status, found_status_lem, valued_status, start_status, called_status, words_status, verified_status, step_shows, call_numbers, filling, keeps}
 
@@ -160,7 +160,7 @@ module _ (image : Slice) where
 
     -- 13 where the words are too few, the options above 7 or the address out of shape
     pub erm_within_shows :
-        (width high low len options : ℕ) (walk : Slice) (r : ℕ)
+        (width high low len options : ℕ) (walk : MutSlice) (r : ℕ)
         → Meets within.Post (image, (h, (width, (high, (low, (len, (options, (walk, tt)))))))) r
         → Shows (door (leb walk_words (length walk.now) && leb options 7 && in_shape width high low) (start_table image.now h (range_of width high low len))) r
     unfolding within_door
@@ -174,7 +174,7 @@ module _ (image : Slice) where
 
     -- 13 leaves the words; a walk that was begun, and the empty one of a refused start, is put into them
     pub erm_within_leaves :
-        (width high low len options : ℕ) (walk after : Slice) (r : ℕ)
+        (width high low len options : ℕ) (walk after : MutSlice) (r : ℕ)
         → Leaves within.Post (image, (h, (width, (high, (low, (len, (options, (walk, tt)))))))) r
         (image, (h, (width, (high, (low, (len, (options, (after, tt))))))))
         → Keeps (leb walk_words (length walk.now) && leb options 7 && in_shape width high low) walk.now
@@ -185,7 +185,7 @@ module _ (image : Slice) where
         keeps passes walk.now _ after.now (ap (λ (x : Begun). x.walk) m.1 ∙ chosen (λ (x : Begun). x.walk) passes _ _)
 
     pub erm_next_shows :
-        (walk : Slice) (budget : ℕ) (r : ErmCalled) → Meets next.Post (image, (h, (walk, (budget, tt)))) r
+        (walk : MutSlice) (budget : ℕ) (r : ErmCalled) → Meets next.Post (image, (h, (walk, (budget, tt)))) r
         → ShowsCall image.now h walk.now budget r.status
     unfolding next_door
     erm_next_shows walk budget r m =
@@ -204,7 +204,7 @@ module _ (image : Slice) where
         }
 
     pub erm_next_leaves :
-        (walk after : Slice) (budget : ℕ) (r : ErmCalled)
+        (walk after : MutSlice) (budget : ℕ) (r : ErmCalled)
         → Leaves next.Post (image, (h, (walk, (budget, tt)))) r (image, (h, (after, (budget, tt))))
         → Keeps (holds_walk walk.now) walk.now (next_of image.now h (walk_of walk.now) budget).walk after.now
     unfolding next_door
@@ -212,7 +212,7 @@ module _ (image : Slice) where
         keeps (holds_walk walk.now) walk.now _ after.now (ap (λ (x : Handed). x.walk) m.1 ∙ chosen (λ (x : Handed). x.walk) (holds_walk walk.now) _ _)
 
     pub erm_rows_shows :
-        (walk out : Slice) (budget : ℕ) (r : ErmFilled) → Meets rows.Post (image, (h, (walk, (out, (budget, tt))))) r
+        (walk out : MutSlice) (budget : ℕ) (r : ErmFilled) → Meets rows.Post (image, (h, (walk, (out, (budget, tt))))) r
         → ShowsRows image.now h walk.now out.now budget r
     unfolding rows_door rows_of
     erm_rows_shows walk out budget r m =
@@ -236,7 +236,7 @@ module _ (image : Slice) where
 
     -- and the rows
     pub erm_rows_leaves :
-        (walk after out filled : Slice) (budget : ℕ) (r : ErmFilled)
+        (walk after out filled : MutSlice) (budget : ℕ) (r : ErmFilled)
         → Leaves rows.Post (image, (h, (walk, (out, (budget, tt))))) r (image, (h, (after, (filled, (budget, tt)))))
         → Keeps (holds_walk walk.now) walk.now (rows_of image.now h (walk_of walk.now) budget out.now).filled.walk after.now
         × (filled.now ≡ cond (holds_walk walk.now) (rows_of image.now h (walk_of walk.now) budget out.now).buffer out.now)
@@ -252,7 +252,7 @@ module _ (image : Slice) where
       (ap (λ (x : ErmScratch). x.status) m.1.1 ∙ words_status (scratch_words_of image.now))
 
   pub erm_verify_shows :
-      Bytes image → (scratch : Slice) (budget : ℕ) (r : ErmVerified) → Meets verify.Post (image, (scratch, (budget, tt))) r
+      Bytes image → (scratch : MutSlice) (budget : ℕ) (r : ErmVerified) → Meets verify.Post (image, (scratch, (budget, tt))) r
       → Shows (verify_table image.now scratch.now budget) r.status
   erm_verify_shows held scratch budget r m =
       shows (verify_table image.now scratch.now budget)
@@ -262,7 +262,7 @@ module _ (image : Slice) where
 
   -- the entry's verdict with the scratch afterwards
   pub erm_verify_leaves :
-      Bytes image → (scratch after : Slice) (budget : ℕ) (r : ErmVerified)
+      Bytes image → (scratch after : MutSlice) (budget : ℕ) (r : ErmVerified)
       → Leaves verify.Post (image, (scratch, (budget, tt))) r (image, (after, (budget, tt)))
       → (d : Verified) × ((r ≡ verified_of d) × Verifies image.now scratch.now budget (out d after.now))
   erm_verify_leaves held scratch after budget r m =

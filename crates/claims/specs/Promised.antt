@@ -1,7 +1,7 @@
 -- What is said of a public function's contract. `promise` is the contract as the language reads it: of the lent values, of the arguments,
 -- of the answer and of the arguments afterwards.
 use Rattle.std.specs.Prelude.{ℕ, ◌+◌, ◌<◌, ◌≡◌, List, get_or}
-use Rattle.std.specs.Borrow.{Bor}
+use Rattle.std.specs.Borrow.{Bor, MutBor}
 use denote.Slice.{shr_slice_vals}
 use Rattle.value.specs.Parts.{spanned}
 use Rattle.promises.specs.Parts.{Gives}
@@ -9,6 +9,10 @@ use Rattle.promises.specs.Parts.{Gives}
 -- a lent slice; `now` is what it holds, `ptr` where it lies
 abbrev pub Slice : Type 0
 Slice = Bor (List ℕ)
+
+-- a slice lent to be written
+abbrev pub MutSlice : Type 0
+MutSlice = MutBor (List ℕ)
 
 -- an answer, and the arguments afterwards, that meet a contract for these arguments
 abbrev pub Leaves : {Lent Args Answer : Type 0} → (Lent → Args → Answer → Args → Type 0) → Args → Answer → Args → Type 0

@@ -1,5 +1,5 @@
-// The functions for C: include/ermopinaw.h. Each calls one public entry and hands its answer on as numbers. What C can
-// write and no entry takes is refused with 13 first, and nothing lent is written.
+// The functions for C, which `exports_c` exports: include/ermopinaw.h. Each calls one public entry and hands its answer on as
+// numbers. What C can write and no entry takes is refused with 13 first, and nothing lent is written.
 ghost use Rattle.std.specs.Prelude.{◌≡◌, true, false};
 ghost use Rattle.opening.specs.Opening.{open_of, age_of};
 ghost use Rattle.about.specs.About.{text_of};
@@ -74,56 +74,43 @@ fn range_of(width: u64, high: u64, low: u64, len: u64) -> Range
     }
 }
 
-#[unsafe(no_mangle)]
-pub extern "C" fn erm_open(image: &[u8]) -> ErmOpened
+pub fn erm_open(image: &[u8]) -> ErmOpened
     ensures { result ≡ opened_of (open_of image.now) }
 {
     opened(maxminddb::open(image))
 }
 
-#[unsafe(no_mangle)]
-pub extern "C" fn erm_age(image: &[u8], time: u64) -> ErmAged
+pub fn erm_age(image: &[u8], time: u64) -> ErmAged
     ensures { result ≡ aged_of (age_of image.now time) }
 {
     aged(maxminddb::age(image, time))
 }
 
-#[unsafe(no_mangle)]
-pub extern "C" fn erm_database_type(image: &[u8]) -> Span
+pub fn erm_database_type(image: &[u8]) -> Span
     ensures { result ≡ span_of (text_of image.now wanted.DatabaseType 0) }
 {
     spans::metadata_text(image, Wanted::DatabaseType, 0)
 }
 
-#[unsafe(no_mangle)]
-pub extern "C" fn erm_language(image: &[u8], index: usize) -> Span
+pub fn erm_language(image: &[u8], index: usize) -> Span
     ensures { result ≡ span_of (text_of image.now wanted.Language index) }
 {
     spans::metadata_text(image, Wanted::Language, index)
 }
 
-#[unsafe(no_mangle)]
-pub extern "C" fn erm_description_language(image: &[u8], index: usize) -> Span
+pub fn erm_description_language(image: &[u8], index: usize) -> Span
     ensures { result ≡ span_of (text_of image.now wanted.DescriptionLanguage index) }
 {
     spans::metadata_text(image, Wanted::DescriptionLanguage, index)
 }
 
-#[unsafe(no_mangle)]
-pub extern "C" fn erm_description(image: &[u8], index: usize) -> Span
+pub fn erm_description(image: &[u8], index: usize) -> Span
     ensures { result ≡ span_of (text_of image.now wanted.Description index) }
 {
     spans::metadata_text(image, Wanted::Description, index)
 }
 
-#[unsafe(no_mangle)]
-pub extern "C" fn erm_lookup(
-    image: &[u8],
-    handle: Handle,
-    width: u64,
-    high: u64,
-    low: u64,
-) -> ErmFound
+pub fn erm_lookup(image: &[u8], handle: Handle, width: u64, high: u64, low: u64) -> ErmFound
     ensures { result ≡ lookup_door image.now handle width high low }
 {
     if !in_shape(width, high, low) {
@@ -135,65 +122,43 @@ pub extern "C" fn erm_lookup(
     found(maxminddb::lookup(image, handle, address_of(width, high, low)))
 }
 
-#[unsafe(no_mangle)]
-pub extern "C" fn erm_read(image: &[u8], handle: Handle, cursor: Cursor) -> ErmValue
+pub fn erm_read(image: &[u8], handle: Handle, cursor: Cursor) -> ErmValue
     ensures { result ≡ valued_of (read_of image.now handle cursor) }
 {
     valued(maxminddb::read(image, handle, cursor))
 }
 
-#[unsafe(no_mangle)]
-pub extern "C" fn erm_text(image: &[u8], handle: Handle, cursor: Cursor) -> Span
+pub fn erm_text(image: &[u8], handle: Handle, cursor: Cursor) -> Span
     ensures { result ≡ span_of (part_of image.now handle cursor false) }
 {
     spans::part(image, handle, cursor, false)
 }
 
-#[unsafe(no_mangle)]
-pub extern "C" fn erm_bytes(image: &[u8], handle: Handle, cursor: Cursor) -> Span
+pub fn erm_bytes(image: &[u8], handle: Handle, cursor: Cursor) -> Span
     ensures { result ≡ span_of (part_of image.now handle cursor true) }
 {
     spans::part(image, handle, cursor, true)
 }
 
-#[unsafe(no_mangle)]
-pub extern "C" fn erm_step_key(
-    image: &[u8],
-    handle: Handle,
-    cursor: Cursor,
-    key: &[u8],
-) -> ErmStepped
+pub fn erm_step_key(image: &[u8], handle: Handle, cursor: Cursor, key: &[u8]) -> ErmStepped
     ensures { result ≡ stepped_of (key_of image.now handle cursor key.now) }
 {
     stepped(maxminddb::step_key(image, handle, cursor, key))
 }
 
-#[unsafe(no_mangle)]
-pub extern "C" fn erm_step_index(
-    image: &[u8],
-    handle: Handle,
-    cursor: Cursor,
-    index: usize,
-) -> ErmStepped
+pub fn erm_step_index(image: &[u8], handle: Handle, cursor: Cursor, index: usize) -> ErmStepped
     ensures { result ≡ stepped_of (index_of image.now handle cursor index false) }
 {
     stepped(maxminddb::step_index(image, handle, cursor, index))
 }
 
-#[unsafe(no_mangle)]
-pub extern "C" fn erm_step_from_end(
-    image: &[u8],
-    handle: Handle,
-    cursor: Cursor,
-    index: usize,
-) -> ErmStepped
+pub fn erm_step_from_end(image: &[u8], handle: Handle, cursor: Cursor, index: usize) -> ErmStepped
     ensures { result ≡ stepped_of (index_of image.now handle cursor index true) }
 {
     stepped(maxminddb::step_from_end(image, handle, cursor, index))
 }
 
-#[unsafe(no_mangle)]
-pub extern "C" fn erm_within(
+pub fn erm_within(
     image: &[u8],
     handle: Handle,
     width: u64,
@@ -222,8 +187,7 @@ pub extern "C" fn erm_within(
     status(answer)
 }
 
-#[unsafe(no_mangle)]
-pub extern "C" fn erm_next(image: &[u8], handle: Handle, walk: &mut [u64], budget: u64) -> ErmCalled
+pub fn erm_next(image: &[u8], handle: Handle, walk: &mut [u64], budget: u64) -> ErmCalled
     ensures { handed result walk.new ≡ next_door image.now handle walk.old budget }
 {
     if !holds(walk) {
@@ -236,8 +200,7 @@ pub extern "C" fn erm_next(image: &[u8], handle: Handle, walk: &mut [u64], budge
     called(answer, c.taken)
 }
 
-#[unsafe(no_mangle)]
-pub extern "C" fn erm_rows(
+pub fn erm_rows(
     image: &[u8],
     handle: Handle,
     walk: &mut [u64],
@@ -264,15 +227,13 @@ pub extern "C" fn erm_rows(
     }
 }
 
-#[unsafe(no_mangle)]
-pub extern "C" fn erm_scratch_words(image: &[u8]) -> ErmScratch
+pub fn erm_scratch_words(image: &[u8]) -> ErmScratch
     ensures { result ≡ scratch_of (scratch_words_of image.now) }
 {
     scratch(maxminddb::scratch_words(image))
 }
 
-#[unsafe(no_mangle)]
-pub extern "C" fn erm_verify(image: &[u8], words: &mut [u64], budget: u64) -> ErmVerified
+pub fn erm_verify(image: &[u8], words: &mut [u64], budget: u64) -> ErmVerified
     ensures { checked result words.new ≡ verify_door (verify_of image.now words.old budget) }
 {
     verified(maxminddb::verify(image, words, budget))

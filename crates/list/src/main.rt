@@ -1,11 +1,14 @@
 // Lists the networks of the image on standard input: a full walk, aliases, networks without data and empty values kept.
-ghost use Rattle.std.specs.Prelude.{◌≡◌, length};
+#![tactic(auto)]
+
+ghost use Rattle.std.specs.Prelude.{◌≡◌, ◌≤◌, IfOk, length};
 
 use handle::Handle;
-use libc::{STDIN_FILENO, STDOUT_FILENO};
 use number::Key;
 use opening::Opened;
 use place::{Options, Outcome};
+use std::io;
+use std::io::Read;
 use walk::{Range, Status, Walk};
 
 // The longest image that is listed.
@@ -45,26 +48,26 @@ fn is_last(answer: Outcome) -> bool {
     }
 }
 
-fn write_error(number: u8) {
+fn write_error(rt: &impl Print, number: u8) -> io::Result<()> {
     let mut line = [0u8; 80];
     let n = listing::put_error(&mut line, 0, number);
-    io::write_all(STDOUT_FILENO, &line[..n]);
+    rt.write_all(&line[..n])
 }
 
-fn write_outcome(width: u64, answer: Outcome) {
+fn write_outcome(rt: &impl Print, width: u64, answer: Outcome) -> io::Result<()> {
     let mut line = [0u8; 80];
     let n = listing::put_outcome(&mut line, 0, width, answer);
-    io::write_all(STDOUT_FILENO, &line[..n]);
+    rt.write_all(&line[..n])
 }
 
-fn list_walk(image: &[u8], h: Handle, begun: Walk) {
+fn list_walk(rt: &impl Print, image: &[u8], h: Handle, begun: Walk) -> io::Result<()> {
     let width = begun.width;
     let mut walk = begun;
     let mut left = CALLS;
     while 0 < left {
         let called = maxminddb::next(image, h, walk, BUDGET);
         let answer = called.answer;
-        write_outcome(width, answer);
+        write_outcome(rt, width, answer)?;
         if is_last(answer) {
             break;
         }
@@ -72,9 +75,10 @@ fn list_walk(image: &[u8], h: Handle, begun: Walk) {
         walk = after;
         left -= 1;
     }
+    Ok(())
 }
 
-fn list_from(image: &[u8], h: Handle) {
+fn list_from(rt: &impl Print, image: &[u8], h: Handle) -> io::Result<()> {
     let everything = Options {
         aliased: true,
         dataless: true,
@@ -84,27 +88,41 @@ fn list_from(image: &[u8], h: Handle) {
     let walk = started.walk;
     let status = started.status;
     match status {
-        Status::Begun => list_walk(image, h, walk),
-        Status::Refused(number) => write_error(number),
+        Status::Begun => list_walk(rt, image, h, walk),
+        Status::Refused(number) => write_error(rt, number),
     }
 }
 
-fn list(image: &[u8]) {
+fn list(rt: &impl Print, image: &[u8]) -> io::Result<()> {
     match maxminddb::open(image) {
         Opened::Is(reader) => {
             let h = reader.handle;
-            list_from(image, h);
+            list_from(rt, image, h)
         }
-        Opened::Refused(number) => write_error(number),
+        Opened::Refused(number) => write_error(rt, number),
     }
 }
 
-fn main() {
-    let mut room = image_room();
-    let n = io::read_full(STDIN_FILENO, &mut room);
-    if LONGEST < n {
-        io::write_all(STDOUT_FILENO, b"too long\n");
-        return;
+// Reads until the room is full or the input ends, and answers how many bytes came.
+fn read_full(input: &mut impl Read, room: &mut [u8]) -> io::Result<usize>
+    ensures { IfOk result (λ n. n ≤ length room.new) }
+{
+    let mut done: usize = 0;
+    while done < room.len() {
+        let n = input.read(&mut room[done..])?;
+        if n == 0 {
+            break;
+        }
+        done += n;
     }
-    list(&room[..n]);
+    Ok(done)
+}
+
+fn main(rt: HostRuntime) -> io::Result<()> {
+    let mut room = image_room();
+    let n = read_full(&mut rt.stdin(), &mut room)?;
+    if LONGEST < n {
+        return rt.write_all(b"too long\n");
+    }
+    list(&rt, &room[..n])
 }

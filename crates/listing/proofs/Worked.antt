@@ -1,5 +1,5 @@
 -- Lines worked by hand, and what a contract here pins down.
-use Prim.Native.Nat.{ℕ, ◌+◌, ◌-◌, ◌*◌, ◌^◌, ◌≤◌}
+use Prim.Native.Nat.{ℕ, ◌+◌, ◌-◌, ◌^◌, ◌≤◌}
 use Prim.Native.Char.{code}
 use Prim.Native.String.{String, [] as []ˢ, ◌∷◌ as ◌∷ˢ◌}
 use mathlib.Core.Path.{◌≡◌, refl, sym, ◌∙◌}
@@ -10,7 +10,7 @@ use Rattle.place.specs.declared.Network.{Network}
 use Rattle.place.specs.declared.NetworkKind.TheVariants.{V4}
 use Rattle.place.specs.declared.Offset.{Offset}
 use Rattle.place.specs.declared.Offset.TheVariants as offset
-use Rattle.place.specs.declared.Outcome.TheVariants.{Given, Failed, Refused, Paused, End}
+use Rattle.place.specs.declared.Outcome.TheVariants.{Given, Failed, End}
 use Rattle.listing.specs.Digits.{digits, places, decimal}
 use Rattle.listing.specs.Lines.{network_line, error_line, line_of, Wrote}
 

@@ -1,4 +1,6 @@
 // The lines of a listing, written into a lent buffer. Each function writes at a place and answers the place past its text.
+#![tactic(auto)]
+
 ghost use Rattle.std.specs.Prelude.{◌≡◌, ◌+◌, ◌≤◌, ◌<◌, length};
 ghost use Rattle.std.proofs.lemmas.List.Edits.{sets};
 ghost use Rattle.listing.specs.Digits.{glyph_of, digits, places, decimal};

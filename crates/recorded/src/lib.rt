@@ -1,10 +1,14 @@
 // A table of recorded answers: entries one after the other, each a header of fixed size, then what was asked with, then
 // content. The README.md beside each table says what its entries mean.
+#![tactic(auto)]
+
 pub mod tally;
 
-ghost use Rattle.std.specs.Prelude.{◌≡◌, length};
+ghost use Rattle.std.specs.Prelude.{◌≡◌, ◌≤◌, IfOk, length};
 
 use number::be;
+use std::io;
+use std::io::Read;
 
 const HEADER: usize = 26;
 
@@ -32,6 +36,21 @@ pub fn zeros() -> [u8; 1310720]
     ensures { 1310720 ≡ length result }
 {
     [0; 1310720]
+}
+
+// Reads until the room is full or the input ends, and answers how many bytes came.
+pub fn read_full(input: &mut impl Read, room: &mut [u8]) -> io::Result<usize>
+    ensures { IfOk result (λ n. n ≤ length room.new) }
+{
+    let mut done: usize = 0;
+    while done < room.len() {
+        let n = input.read(&mut room[done..])?;
+        if n == 0 {
+            break;
+        }
+        done += n;
+    }
+    Ok(done)
 }
 
 // The number that so many bytes spell; 0 where they are not all there.

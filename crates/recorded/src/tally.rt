@@ -1,4 +1,5 @@
 // What was counted, and how it is written.
+use std::io;
 use std::num::{wrapping_add_u64, wrapping_sub_u64};
 
 // One count for each question, or for each kind of answer: as many as refusals have numbers, and 0.
@@ -73,29 +74,36 @@ fn at(counts: &[u64], slot: usize) -> u64 {
     if slot < counts.len() { counts[slot] } else { 0 }
 }
 
-pub fn print_question(name: &[u8], rows: &[u64], equal: &[u64], slot: usize) {
-    io::write_all(1, name);
-    io::print_decimal(1, at(rows, slot));
-    io::write_all(1, b" rows, ");
-    io::print_decimal(1, at(equal, slot));
-    io::write_all(1, b" equal\n");
+pub fn print_question(
+    rt: &impl Print,
+    name: &[u8],
+    rows: &[u64],
+    equal: &[u64],
+    slot: usize,
+) -> io::Result<()> {
+    rt.write_all(name)?;
+    rt.print(at(rows, slot))?;
+    rt.write_all(b" rows, ")?;
+    rt.print(at(equal, slot))?;
+    rt.write_all(b" equal\n")
 }
 
-pub fn print_kind(name: &[u8], kinds: &[u64], kind: usize) {
-    io::write_all(1, name);
-    io::print_decimal(1, at(kinds, kind));
+pub fn print_kind(rt: &impl Print, name: &[u8], kinds: &[u64], kind: usize) -> io::Result<()> {
+    rt.write_all(name)?;
+    rt.print(at(kinds, kind))
 }
 
-pub fn print_sum(t: Tally) {
-    io::print_decimal(1, t.rows);
-    io::write_all(1, b" rows, ");
-    io::print_decimal(1, wrapping_sub_u64(t.rows, t.different));
-    io::write_all(1, b" equal, ");
-    io::print_decimal(1, t.different);
-    io::write_all(1, b" different\n");
+pub fn print_sum(rt: &impl Print, t: Tally) -> io::Result<()> {
+    rt.print(t.rows)?;
+    rt.write_all(b" rows, ")?;
+    rt.print(wrapping_sub_u64(t.rows, t.different))?;
+    rt.write_all(b" equal, ")?;
+    rt.print(t.different)?;
+    rt.write_all(b" different\n")?;
     if 0 < t.different {
-        io::write_all(1, b"the first different row is ");
-        io::print_decimal(1, t.first);
-        io::write_all(1, b"\n");
+        rt.write_all(b"the first different row is ")?;
+        rt.print(t.first)?;
+        rt.write_all(b"\n")?;
     }
+    Ok(())
 }

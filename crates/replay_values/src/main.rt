@@ -1,4 +1,6 @@
 // Replays the recorded table: asks our functions what the crate was asked, and says how many answers are equal.
+#![tactic(auto)]
+
 mod answer;
 mod report;
 mod steps;
@@ -6,18 +8,20 @@ mod table;
 
 use answer::is_equal;
 use recorded::tally::{Tally, nothing_yet, with_row};
-use recorded::{Entry, Found, after, entry_at, span, zeros};
+use recorded::{Entry, Found, after, entry_at, read_full, span, zeros};
 use report::{AFTER_STEPS, print_tally};
+use std::io;
+use std::io::Read;
 use table::QUESTION_SECTION;
 
 // Zeros before the table, over which its first section reaches back: a pointer of class 2 leads no nearer than this.
 const LEAD: usize = 526336;
 
-fn read_table(table: &mut [u8]) -> usize {
+fn read_table(input: &mut impl Read, table: &mut [u8]) -> io::Result<usize> {
     if LEAD <= table.len() {
-        io::read_full(0, &mut table[LEAD..])
+        read_full(input, &mut table[LEAD..])
     } else {
-        0
+        Ok(0)
     }
 }
 
@@ -39,7 +43,7 @@ fn slot_of(e: Entry) -> usize {
 }
 
 // The entries from LEAD on. Each takes a byte at least, so there are no more of them than bytes.
-fn replay(table: &[u8]) -> Tally {
+fn replay(rt: &impl Print, table: &[u8]) -> io::Result<Tally> {
     let mut tally = nothing_yet();
     let mut at = LEAD;
     let mut start: usize = 0;
@@ -61,18 +65,18 @@ fn replay(table: &[u8]) -> Tally {
                 }
             }
             Found::Broken => {
-                io::write_all(1, b"the table is broken past these rows:\n");
+                rt.write_all(b"the table is broken past these rows:\n")?;
                 break;
             }
         }
         left -= 1;
     }
-    tally
+    Ok(tally)
 }
 
-fn main() {
+fn main(rt: HostRuntime) -> io::Result<()> {
     let mut table = zeros();
-    let n = read_table(&mut table);
+    let n = read_table(&mut rt.stdin(), &mut table)?;
     let end = after(&table, LEAD, n);
-    print_tally(replay(span(&table, 0, end)));
+    print_tally(&rt, replay(&rt, span(&table, 0, end))?)
 }

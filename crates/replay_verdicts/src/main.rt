@@ -1,4 +1,6 @@
 // Replays the recorded table: asks our entry points what the crate was asked, and says how many answers are equal.
+#![tactic(auto)]
+
 mod answer;
 mod report;
 mod scratch;
@@ -6,12 +8,13 @@ mod table;
 
 use answer::is_equal;
 use recorded::tally::{Tally, nothing_yet, with_row};
-use recorded::{Found, after, entry_at, span, zeros};
+use recorded::{Found, after, entry_at, read_full, span, zeros};
 use report::{print_tally, slot_of};
+use std::io;
 use table::QUESTION_IMAGE;
 
 // Each entry takes a byte at least, so there are no more of them than bytes.
-fn replay(table: &[u8]) -> Tally {
+fn replay(rt: &impl Print, table: &[u8]) -> io::Result<Tally> {
     let mut tally = nothing_yet();
     let mut at: usize = 0;
     let mut start: usize = 0;
@@ -33,18 +36,18 @@ fn replay(table: &[u8]) -> Tally {
                 }
             }
             Found::Broken => {
-                io::write_all(1, b"the table is broken past these rows:\n");
+                rt.write_all(b"the table is broken past these rows:\n")?;
                 break;
             }
         }
         left -= 1;
     }
-    tally
+    Ok(tally)
 }
 
-fn main() {
+fn main(rt: HostRuntime) -> io::Result<()> {
     let mut table = zeros();
-    let n = io::read_full(0, &mut table);
+    let n = read_full(&mut rt.stdin(), &mut table)?;
     let end = after(&table, 0, n);
-    print_tally(replay(span(&table, 0, end)));
+    print_tally(&rt, replay(&rt, span(&table, 0, end))?)
 }

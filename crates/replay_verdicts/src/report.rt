@@ -4,6 +4,7 @@ use crate::table::{
 };
 use recorded::Entry;
 use recorded::tally::{Tally, print_kind, print_question, print_sum};
+use std::io;
 
 // The slot of a recorded verdict: refused ones are counted by their number, accepted ones in the first.
 pub fn slot_of(e: Entry) -> usize {
@@ -14,43 +15,43 @@ pub fn slot_of(e: Entry) -> usize {
     }
 }
 
-fn print_questions(asked: &[u64], equal: &[u64]) {
-    print_question(b"metadata: ", asked, equal, QUESTION_METADATA);
-    print_question(b"tree: ", asked, equal, QUESTION_TREE);
-    print_question(b"data: ", asked, equal, QUESTION_DATA);
-    print_question(b"random: ", asked, equal, QUESTION_RANDOM);
+fn print_questions(rt: &impl Print, asked: &[u64], equal: &[u64]) -> io::Result<()> {
+    print_question(rt, b"metadata: ", asked, equal, QUESTION_METADATA)?;
+    print_question(rt, b"tree: ", asked, equal, QUESTION_TREE)?;
+    print_question(rt, b"data: ", asked, equal, QUESTION_DATA)?;
+    print_question(rt, b"random: ", asked, equal, QUESTION_RANDOM)
 }
 
-fn print_of_opening(kinds: &[u64]) {
-    print_kind(b"refused with 1: ", kinds, 1);
-    print_kind(b", 2: ", kinds, 2);
-    print_kind(b", 3: ", kinds, 3);
-    print_kind(b", 4: ", kinds, 4);
-    print_kind(b", 5: ", kinds, 5);
-    print_kind(b", 6: ", kinds, 6);
-    print_kind(b", 7: ", kinds, 7);
-    print_kind(b", 8: ", kinds, 8);
+fn print_of_opening(rt: &impl Print, kinds: &[u64]) -> io::Result<()> {
+    print_kind(rt, b"refused with 1: ", kinds, 1)?;
+    print_kind(rt, b", 2: ", kinds, 2)?;
+    print_kind(rt, b", 3: ", kinds, 3)?;
+    print_kind(rt, b", 4: ", kinds, 4)?;
+    print_kind(rt, b", 5: ", kinds, 5)?;
+    print_kind(rt, b", 6: ", kinds, 6)?;
+    print_kind(rt, b", 7: ", kinds, 7)?;
+    print_kind(rt, b", 8: ", kinds, 8)
 }
 
-fn print_kinds(kinds: &[u64]) {
-    print_kind(b"accepted ", kinds, 0);
-    io::write_all(1, b"\n");
-    print_of_opening(kinds);
-    print_kind(b", 11: ", kinds, 11);
-    print_kind(b", 12: ", kinds, 12);
-    print_kind(b", 14: ", kinds, 14);
-    print_kind(b", 17: ", kinds, 17);
-    print_kind(b", 18: ", kinds, 18);
-    print_kind(b", 19: ", kinds, 19);
-    print_kind(b", 20: ", kinds, 20);
-    io::write_all(1, b"\n");
+fn print_kinds(rt: &impl Print, kinds: &[u64]) -> io::Result<()> {
+    print_kind(rt, b"accepted ", kinds, 0)?;
+    rt.write_all(b"\n")?;
+    print_of_opening(rt, kinds)?;
+    print_kind(rt, b", 11: ", kinds, 11)?;
+    print_kind(rt, b", 12: ", kinds, 12)?;
+    print_kind(rt, b", 14: ", kinds, 14)?;
+    print_kind(rt, b", 17: ", kinds, 17)?;
+    print_kind(rt, b", 18: ", kinds, 18)?;
+    print_kind(rt, b", 19: ", kinds, 19)?;
+    print_kind(rt, b", 20: ", kinds, 20)?;
+    rt.write_all(b"\n")
 }
 
-pub fn print_tally(t: Tally) {
+pub fn print_tally(rt: &impl Print, t: Tally) -> io::Result<()> {
     let asked = t.asked;
     let equal = t.equal;
     let kinds = t.kinds;
-    print_questions(&asked, &equal);
-    print_kinds(&kinds);
-    print_sum(t);
+    print_questions(rt, &asked, &equal)?;
+    print_kinds(rt, &kinds)?;
+    print_sum(rt, t)
 }

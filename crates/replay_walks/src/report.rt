@@ -4,6 +4,7 @@ use crate::table::{
 };
 use recorded::Entry;
 use recorded::tally::{Tally, print_kind, print_question, print_sum};
+use std::io;
 
 // The slot of a recorded answer: refused starts are counted by their number.
 pub fn slot_of(e: Entry) -> usize {
@@ -14,25 +15,25 @@ pub fn slot_of(e: Entry) -> usize {
     }
 }
 
-fn print_questions(asked: &[u64], equal: &[u64]) {
-    print_question(b"all addresses: ", asked, equal, QUESTION_WHOLE);
-    print_question(b"IPv4 ranges: ", asked, equal, QUESTION_IPV4);
-    print_question(b"IPv6 ranges: ", asked, equal, QUESTION_IPV6);
+fn print_questions(rt: &impl Print, asked: &[u64], equal: &[u64]) -> io::Result<()> {
+    print_question(rt, b"all addresses: ", asked, equal, QUESTION_WHOLE)?;
+    print_question(rt, b"IPv4 ranges: ", asked, equal, QUESTION_IPV4)?;
+    print_question(rt, b"IPv6 ranges: ", asked, equal, QUESTION_IPV6)
 }
 
-fn print_kinds(kinds: &[u64]) {
-    print_kind(b"walks line by line ", kinds, KIND_LINES);
-    print_kind(b", by sums ", kinds, KIND_SUMS);
-    print_kind(b", refused with 10: ", kinds, 10);
-    print_kind(b", 16: ", kinds, 16);
-    io::write_all(1, b"\n");
+fn print_kinds(rt: &impl Print, kinds: &[u64]) -> io::Result<()> {
+    print_kind(rt, b"walks line by line ", kinds, KIND_LINES)?;
+    print_kind(rt, b", by sums ", kinds, KIND_SUMS)?;
+    print_kind(rt, b", refused with 10: ", kinds, 10)?;
+    print_kind(rt, b", 16: ", kinds, 16)?;
+    rt.write_all(b"\n")
 }
 
-pub fn print_tally(t: Tally) {
+pub fn print_tally(rt: &impl Print, t: Tally) -> io::Result<()> {
     let asked = t.asked;
     let equal = t.equal;
     let kinds = t.kinds;
-    print_questions(&asked, &equal);
-    print_kinds(&kinds);
-    print_sum(t);
+    print_questions(rt, &asked, &equal)?;
+    print_kinds(rt, &kinds)?;
+    print_sum(rt, t)
 }

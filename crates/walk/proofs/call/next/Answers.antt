@@ -2,7 +2,6 @@ use Prim.Native.Nat.{ℕ, ◌+◌, ◌-◌, ◌<◌, ◌≤◌}
 use mathlib.Core.Path.{◌≡◌, refl, ap, sym, ◌∙◌}
 use mathlib.Core.Bool.{Bool, true, false}
 use native.Mathlib.Omega.{arith}
-use borrow.Author.Tests.{not-true, not-false}
 use lib.ListN.{length}
 use Rattle.handle.specs.Handle.{fits_of}
 use Rattle.handle.proofs.HandleLaws.{fit}
@@ -21,7 +20,7 @@ use Rattle.walk.proofs.call.next.Goals.{After-visit, Else-frame_out, Else-newest
 
 -- the handle fits
 fitted : (c : Else-not-fits) → fits_of c.args.h (length c.args.image.now) ≡ true
-fitted c = sym c.fits.ensures ∙ not-false _ c.if-not-fits.false-raw
+fitted c = sym c.fits.ensures ∙ c.if-not-fits.false
 
 whole :
     (c : Else-not-fits)
@@ -87,7 +86,7 @@ opens c f g e =
 
 pub returns-then-not-fits : goal.returns-then-not-fits
 unfolding next_of
-returns-then-not-fits c = simp (sym c.fits.ensures ∙ not-true _ c.if-not-fits.true-raw)
+returns-then-not-fits c = simp (sym c.fits.ensures ∙ c.if-not-fits.true)
 
 pub overflow_sub-marker : goal.overflow_sub-marker
 overflow_sub-marker c = let f = fit _ _ (fitted (goal.at.overflow_sub-marker c).Else-not-fits) in omega (arith, f.marked)

@@ -1,8 +1,8 @@
+use borrow.Author.Rules.{rules}
 use Prim.Native.Nat.{ℕ, ◌+◌, ◌-◌, ◌*◌, ◌/◌, ◌<◌, ◌≤◌}
 use mathlib.Core.Path.{◌≡◌, refl, ap, sym, ◌∙◌}
 use mathlib.Core.Bool.{Bool, true, false}
 use native.Mathlib.Omega.{arith}
-use borrow.Author.Tests.{not-true, not-false}
 use lib.ListN.{length, length-set, length-map}
 use Rattle.handle.specs.Handle.{fits_of}
 use Rattle.handle.proofs.HandleLaws.{fit}
@@ -28,7 +28,7 @@ few w e = let f = frame_in w.count w.width e in (f.0, wide_in f.1)
 
 -- the handle fits
 fitted : (c : Else-not-fits) → fits_of c.args.h (length c.args.image.now) ≡ true
-fitted c = sym c.fits.ensures ∙ not-false _ c.if-not-fits.false-raw
+fitted c = sym c.fits.ensures ∙ c.if-not-fits.false
 
 -- what was tested, in the walk's own width
 framed : (w : Walk) {width : ℕ} {r : Bool} → width ≡ w.width → r ≡ frame_out w.count width → frame_out w.count w.width ≡ r
@@ -104,7 +104,7 @@ plain-opens c e =
     (o.0, omega (arith, o.1, i), omega (arith, f.1, i), omega (arith, f.0, r))
 
 pub returns-then-not-fits : goal.returns-then-not-fits
-returns-then-not-fits c = sym (rows_refused _ _ (sym c.fits.ensures ∙ not-true _ c.if-not-fits.true-raw) _ _ _)
+returns-then-not-fits c = sym (rows_refused _ _ (sym c.fits.ensures ∙ c.if-not-fits.true) _ _ _)
 
 pub overflow_sub-marker : goal.overflow_sub-marker
 overflow_sub-marker c = let f = fit _ _ (fitted (goal.at.overflow_sub-marker c).Else-not-fits) in omega (arith, f.marked, f.whole)
@@ -126,7 +126,7 @@ rows-init c = let a = c.args in
       refl,
       refl,
       refl,
-      c.well_formed.1.1.0.1.1.0.1.0.1,
+      search rules,
       ap (λ (k : ℕ). pouring 0 0 (going a.image.now a.h a.budget k 0 a.walk) a.out.now) e,
     )
 
@@ -243,7 +243,7 @@ put_row-requires c = let l : c.loop-section.row < length c.args.out.now / 5 = c.
     omega (arith, l, e)
 
 pub overflow_add-row : goal.overflow_add-row
-overflow_add-row c = let g : length c.args.out.now * 8 < 9223372036854775808 = c.well_formed.1.1.1.0.1 in
+overflow_add-row c = let g : length c.args.out.now * 8 < 9223372036854775808 = search rules in
     let l : c.loop-section.row < length c.args.out.now / 5 = c.loop-section.invariant.2 in
     omega (arith, g, l)
 
