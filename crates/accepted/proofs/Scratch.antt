@@ -22,7 +22,7 @@ use Rattle.recording.specs.Recording.{Tour, tour_of}
 use Rattle.verify.specs.declared.Verified.{Verified}
 use Rattle.verify.specs.declared.Verified.TheVariants.{Accepted, Refused}
 use Rattle.verify.specs.Verify.{metadata_in, words_of, separator_of, all_zero, gate, database_on, database_of, verdict_of, scratch_words_of, out, cleared, verify_on, verify_of}
-use Rattle.accepted.specs.Accepted.{Bytes, Untouching, Leaves, verify_walk, Walking, bad_record_lem, too_deep_lem, too_many, budget_spent}
+use Rattle.accepted.specs.Accepted.{Bytes, Untouching, Leaves, verify_walk, Walking, met_bad_record, met_too_deep, too_many, budget_spent}
 use Rattle.accepted.proofs.Tours.{Ends, all, refused, tour_ends}
 
 -- NO ANSWER HANGS ON WHAT THE SCRATCH HELD: its length alone is looked at
@@ -56,8 +56,8 @@ late_gate true number v lo hi l = l
 late_gate false number v lo hi l = (lo, hi)
 
 late_walk : {number : ℕ} → Walking number → (9 ≤ number) × (number ≤ 21)
-late_walk bad_record_lem = (omega arith, omega arith)
-late_walk too_deep_lem = (omega arith, omega arith)
+late_walk met_bad_record = (omega arith, omega arith)
+late_walk met_too_deep = (omega arith, omega arith)
 late_walk too_many = (omega arith, omega arith)
 late_walk budget_spent = (omega arith, omega arith)
 

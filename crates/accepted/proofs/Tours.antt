@@ -42,7 +42,7 @@ use Rattle.fullwalk.specs.FullWalk.{width_of, handed_out, Walked, ends, goes_on}
 use Rattle.fullwalk.proofs.WalkedLaws.{all_given}
 use Rattle.recording.specs.declared.Recorded.TheVariants as recorded
 use Rattle.recording.specs.Recording.{whole_range, options, offsets_of, reply_of, Tour, on_reply, too_many_tour, toured, tour_of}
-use Rattle.accepted.specs.Accepted.{verify_walk, offsets_in, Walking, bad_record_lem, too_deep_lem, too_many, budget_spent}
+use Rattle.accepted.specs.Accepted.{verify_walk, offsets_in, Walking, met_bad_record, met_too_deep, too_many, budget_spent}
 use Rattle.accepted.specs.Visited.{here, Visited, OffsetOf}
 use Rattle.accepted.proofs.Turned.{Turned, alias, node, deep, bad, network, turned, Fine, Clear, AllClear, clear_more, clear_alias, clear_network, clear_node, leads_on, added_newest, added_rest, taken_back}
 
@@ -359,8 +359,8 @@ module _ (s : List ℕ) (h : Handle) where
           → ((n : Network) → ((o : ℕ) → n.offset ≡ At o → OffsetOf s h o) → c.answer ≡ Given n → Ends more w (on_reply (reply_of c.answer) rest))
           → Ends more w (on_reply (reply_of c.answer) rest)
       by_sort more rest (Given n) e (given _ from) on = on n from e
-      by_sort more rest (Failed j) e faulty on = rw e (refused refusal.bad_record bad_record_lem [])
-      by_sort more rest (Failed j) e too_deep on = rw e (refused refusal.too_deep too_deep_lem [])
+      by_sort more rest (Failed j) e faulty on = rw e (refused refusal.bad_record met_bad_record [])
+      by_sort more rest (Failed j) e too_deep on = rw e (refused refusal.too_deep met_too_deep [])
       by_sort more rest Paused e paused on = rw e (refused refusal.budget budget_spent [])
       by_sort more rest End e end on = at_end more rest e
       by_sort more rest (Refused _) e x on = elim x [ ]

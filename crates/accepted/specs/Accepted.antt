@@ -44,8 +44,8 @@ verify_walk s h = (begin_of s h (whole_range h) options).walk
 
 -- the refusals of that walk: 11, 12, 19 and 21
 pub data Walking : ℕ → Type 0 where
-  bad_record_lem : Walking refusal.bad_record
-  too_deep_lem : Walking refusal.too_deep
+  met_bad_record : Walking refusal.bad_record
+  met_too_deep : Walking refusal.too_deep
   too_many : Walking refusal.too_many_networks
   budget_spent : Walking refusal.budget
 

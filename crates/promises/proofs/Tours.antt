@@ -38,8 +38,8 @@ use Rattle.promises.proofs.Shapes.{handed_first}
 -- how a walk may end, with so many more networks allowed and so much of the budget left
 pub data Ended (s : List ℕ) (h : Handle) (more b : ℕ) (w : Walk) : Recorded → Type 0 where
   whole : Ended s h more b w recorded.All
-  bad_record_lem : Then s h more b w (outcome.Failed 11) → Ended s h more b w (recorded.Refused 11)
-  too_deep_lem : Then s h more b w (outcome.Failed 12) → Ended s h more b w (recorded.Refused 12)
+  met_bad_record : Then s h more b w (outcome.Failed 11) → Ended s h more b w (recorded.Refused 11)
+  met_too_deep : Then s h more b w (outcome.Failed 12) → Ended s h more b w (recorded.Refused 12)
   too_many : Many s h (suc more) b w → Ended s h more b w (recorded.Refused 19)
   spent : Then s h more b w outcome.Paused → Ended s h more b w (recorded.Refused 21)
 
@@ -108,8 +108,8 @@ module _ (s : List ℕ) (h : Handle) where
 
       later : {x : Recorded} → Ended s h more b' w' x → Ended s h (suc more) b w x
       later whole = whole
-      later (bad_record_lem t) = bad_record_lem (then_later t)
-      later (too_deep_lem t) = too_deep_lem (then_later t)
+      later (met_bad_record t) = met_bad_record (then_later t)
+      later (met_too_deep t) = met_too_deep (then_later t)
       later (too_many t) = too_many (record { left = t.left; at = t.at; handed = (g, t.handed) })
       later (spent t) = spent (then_later t)
 
@@ -121,8 +121,8 @@ module _ (s : List ℕ) (h : Handle) where
         (more b : ℕ) (w : Walk) {a : Outcome} → Plain a → (next_of s h w b).answer ≡ a → (rest : Tour)
         → ((n : Network) → (next_of s h w b).answer ≡ outcome.Given n → Ended s h more b w rest.ended) → Ended s h more b w (on_reply (reply_of a) rest).ended
     reply_ended more b w (given n) e rest f = f n e
-    reply_ended more b w record_failed e rest f = bad_record_lem (now more b w e)
-    reply_ended more b w depth_failed e rest f = too_deep_lem (now more b w e)
+    reply_ended more b w record_failed e rest f = met_bad_record (now more b w e)
+    reply_ended more b w depth_failed e rest f = met_too_deep (now more b w e)
     reply_ended more b w paused e rest f = spent (now more b w e)
     reply_ended more b w end e rest f = whole
 

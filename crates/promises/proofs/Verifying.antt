@@ -33,7 +33,7 @@ use Rattle.order.specs.Order.{Refuses, Table, First}
 use Rattle.order.proofs.OrderLaws.{exactly, gate, refuses_not}
 use Rattle.promises.specs.Verifying.{Opened, ScratchTooShort, BadMetadata, NoType, NoDescription, begun, WalkFails, TooMany, BudgetSpent, BadSeparator, BadData, verify_rows, verify_table, Early, Verifies}
 use Rattle.promises.proofs.Images.{then}
-use Rattle.promises.proofs.Tours.{Ended, whole, bad_record_lem, too_deep_lem, too_many, spent, tour_ended, then_ends, many_ends}
+use Rattle.promises.proofs.Tours.{Ended, whole, met_bad_record, met_too_deep, too_many, spent, tour_ended, then_ends, many_ends}
 
 -- the separator's bytes
 zero_all : (l : List ℕ) → all_zero l ≡ true → (i : ℕ) → get_or l i 0 ≡ 0
@@ -164,8 +164,8 @@ module _ (s : List ℕ) (bytes : (i : ℕ) → get_or s i 0 < 256) (ws : List �
         {x : Recorded} (next : Verified) → First (drop 8 rows) (verify_verdict next) → Ended s h (3 * h.nodes) budget (begun s h) x → end ≡ x
         → First (drop 4 rows) (verify_verdict (walked x next))
     walk_first next f whole q = inr (not_11 q all_not, inr (not_12 q all_not, inr (not_19 q all_not, inr (not_21 q all_not, f))))
-    walk_first next f (bad_record_lem t) q = inl (of (WalkFails s budget 11) t, refl)
-    walk_first next f (too_deep_lem t) q = inr (not_11 q (differ (λ z. omega arith)), inl (of (WalkFails s budget 12) t, refl))
+    walk_first next f (met_bad_record t) q = inl (of (WalkFails s budget 11) t, refl)
+    walk_first next f (met_too_deep t) q = inr (not_11 q (differ (λ z. omega arith)), inl (of (WalkFails s budget 12) t, refl))
     walk_first next f (too_many t) q =
         inr (not_11 q (differ (λ z. omega arith)), inr (not_12 q (differ (λ z. omega arith)), inl (of (TooMany s budget) t, refl)))
     walk_first next f (spent t) q =
