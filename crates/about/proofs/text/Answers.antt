@@ -9,4 +9,9 @@ pub returns : goal.returns
 returns c = let a = c.args in
     let p = c.place-p.result in
     let e = c.place-p.ensures.value in
-    record { result_value = ap (λ (j : ℕ). take j (drop p.from a.image.now)) (add-sub_cancel_left p.from p.size) ∙ ap (λ (q : Part). take q.size (drop q.from a.image.now)) e; ref_ptr_value = ap (λ (j : ℕ). (a.image.ref_ptr.0, j)) (add_comm p.from a.image.ref_ptr.1 ∙ ap (λ (q : Part). a.image.ref_ptr.1 + q.from) e) }
+    record {
+      result_value =
+          ap (λ (j : ℕ). take j (drop p.from a.image.now)) (add-sub_cancel_left p.from p.size)
+          ∙ ap (λ (q : Part). take q.size (drop q.from a.image.now)) e;
+      ref_ptr_value = ap (λ (j : ℕ). (a.image.ref_ptr.0, j)) (add_comm p.from a.image.ref_ptr.1 ∙ ap (λ (q : Part). a.image.ref_ptr.1 + q.from) e);
+    }

@@ -42,7 +42,16 @@ pub loop-row-smaller : goal.loop-row-smaller
 loop-row-smaller c = omega arith
 
 pub loop-row-preserved : goal.loop-row-preserved
-loop-row-preserved c = (omega arith, ap length c.mark.ensures ∙ length_each _ _ ∙ c.loop-row.invariant.1, (roomy (goal.at.loop-row-preserved c).After-offset_of).1, rw (c.mark.ensures, own (goal.at.loop-row-preserved c).After-offset_of) (sym (recorded_first c.loop-row.bits (offset_in (get_or c.args.rows.now (c.loop-row.row * 5 + 4) 0)) _) ∙ ap (record_each c.loop-row.bits) (sym (row_first c.args.rows.now c.loop-row.row c.args.n c.loop-row-test.true)) ∙ c.loop-row.invariant.3))
+loop-row-preserved c =
+    let at_offset = (goal.at.loop-row-preserved c).After-offset_of in (
+      omega arith,
+      ap length c.mark.ensures ∙ length_each _ _ ∙ c.loop-row.invariant.1,
+      (roomy at_offset).1,
+      rw (c.mark.ensures, own at_offset)
+          (sym (recorded_first c.loop-row.bits (offset_in (get_or c.args.rows.now (c.loop-row.row * 5 + 4) 0)) _)
+          ∙ ap (record_each c.loop-row.bits) (sym (row_first c.args.rows.now c.loop-row.row c.args.n c.loop-row-test.true))
+          ∙ c.loop-row.invariant.3),
+    )
 
 pub shape_of-bits : goal.shape_of-bits
 shape_of-bits c = c.loop-row.invariant.1

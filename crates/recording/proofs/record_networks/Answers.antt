@@ -51,7 +51,13 @@ pub overflow_add-more : goal.overflow_add-more
 overflow_add-more c = let l : c.next_rows-filled.result.rows ≤ 256 = few (goal.at.overflow_add-more c).After-next_rows-filled in omega (arith, c.if-more-n.true, l)
 
 pub mark_rows-requires : goal.mark_rows-requires
-mark_rows-requires c = let l : c.next_rows-filled.result.rows ≤ 256 = few (goal.at.mark_rows-requires c).After-next_rows-filled in record { n_in_bounds = omega (arith, c.if-more-n.true, l, lasts (goal.at.mark_rows-requires c).After-next_rows-filled); below = (sweeps (goal.at.mark_rows-requires c).After-next_rows-filled).below _ _ (room (goal.at.mark_rows-requires c).After-next_rows-filled) (omega (arith, c.if-more-n.true)) }
+mark_rows-requires c =
+    let at_rows = (goal.at.mark_rows-requires c).After-next_rows-filled in
+    let l : c.next_rows-filled.result.rows ≤ 256 = few at_rows in
+    record {
+      n_in_bounds = omega (arith, c.if-more-n.true, l, lasts at_rows);
+      below = (sweeps at_rows).below _ _ (room at_rows) (omega (arith, c.if-more-n.true));
+    }
 
 pub returns-then-more-n : goal.returns-then-more-n
 returns-then-more-n c = rw c.mark_rows.ensures ((sweeps (goal.at.returns-then-more-n c).After-next_rows-filled).over _ _ c.if-more-n.true ∙ c.loop-more.invariant.2)
@@ -60,7 +66,10 @@ pub slice_bounds-mark_rows-end-in-loop-more : goal.slice_bounds-mark_rows-end-in
 slice_bounds-mark_rows-end-in-loop-more c = sym (lasts (goal.at.slice_bounds-mark_rows-end-in-loop-more c).After-next_rows-filled)
 
 pub mark_rows-requires-in-loop-more : goal.mark_rows-requires-in-loop-more
-mark_rows-requires-in-loop-more c = let l : c.next_rows-filled.result.rows ≤ 256 = few (goal.at.mark_rows-requires-in-loop-more c).After-next_rows-filled in record { n_in_bounds = omega (arith, l, lasts (goal.at.mark_rows-requires-in-loop-more c).After-next_rows-filled); below = (sweeps (goal.at.mark_rows-requires-in-loop-more c).After-next_rows-filled).below _ _ (room (goal.at.mark_rows-requires-in-loop-more c).After-next_rows-filled) (omega arith) }
+mark_rows-requires-in-loop-more c =
+    let at_rows = (goal.at.mark_rows-requires-in-loop-more c).After-next_rows-filled in
+    let l : c.next_rows-filled.result.rows ≤ 256 = few at_rows in
+    record { n_in_bounds = omega (arith, l, lasts at_rows); below = (sweeps at_rows).below _ _ (room at_rows) (omega arith) }
 
 pub overflow_sub-left : goal.overflow_sub-left
 overflow_sub-left c = (sweeps (goal.at.overflow_sub-left c).After-next_rows-filled).paid
@@ -69,7 +78,13 @@ pub loop-more-smaller : goal.loop-more-smaller
 loop-more-smaller c = let l : c.next_rows-filled.result.rows ≡ 256 = (sweeps (goal.at.loop-more-smaller c).After-next_rows-filled).full c.in-Full.is in omega (arith, c.if-more-n.false, l)
 
 pub loop-more-preserved : goal.loop-more-preserved
-loop-more-preserved c = (ap length c.mark_rows-in-loop-more.ensures ∙ length_each _ _ ∙ c.loop-more.invariant.0, lasts (goal.at.loop-more-preserved c).After-next_rows-filled, rw c.mark_rows-in-loop-more.ensures (halted _ _ _ _ _ (call (goal.at.loop-more-preserved c).After-next_rows-filled) (sweeps (goal.at.loop-more-preserved c).After-next_rows-filled) _ c.in-Full.is _ _ (omega (arith, c.if-more-n.false)) ∙ c.loop-more.invariant.2))
+loop-more-preserved c =
+    let at_rows = (goal.at.loop-more-preserved c).After-next_rows-filled in (
+      ap length c.mark_rows-in-loop-more.ensures ∙ length_each _ _ ∙ c.loop-more.invariant.0,
+      lasts at_rows,
+      rw c.mark_rows-in-loop-more.ensures
+          (halted _ _ _ _ _ (call at_rows) (sweeps at_rows) _ c.in-Full.is _ _ (omega (arith, c.if-more-n.false)) ∙ c.loop-more.invariant.2),
+    )
 
 pub returns-in-Failed : goal.returns-in-Failed
 unfolding record_each

@@ -119,7 +119,15 @@ pub bounds-w-i : goal.bounds-w-i
 bounds-w-i c = omega (arith, few c.loop-section.w (frame (goal.at.bounds-w-i c).Else-frame_out))
 
 pub returns-then-newest_out : goal.returns-then-newest_out
-returns-then-newest_out c = sym (whole (goal.at.returns-then-newest_out c).Else-not-fits ∙ c.loop-section.invariant.3 ∙ goes_out _ _ _ _ c.if-count-eq0.false _ (out_by_newest _ _ c.if-count-eq0.false (frame (goal.at.returns-then-newest_out c).Else-frame_out) (tested c.args.h.nodes c.loop-section.w c.loop-section.invariant.1 c.newest_out.ensures ∙ c.if-newest_out.true)))
+returns-then-newest_out c =
+    let at_fits = (goal.at.returns-then-newest_out c).Else-not-fits in
+    let at_frame = (goal.at.returns-then-newest_out c).Else-frame_out in
+    sym
+    (whole at_fits
+    ∙ c.loop-section.invariant.3
+    ∙ goes_out _ _ _ _ c.if-count-eq0.false _
+    (out_by_newest _ _ c.if-count-eq0.false (frame at_frame)
+    (tested c.args.h.nodes c.loop-section.w c.loop-section.invariant.1 c.newest_out.ensures ∙ c.if-newest_out.true)))
 
 pub returns-then-budget-n : goal.returns-then-budget-n
 returns-then-budget-n c =
@@ -133,16 +141,34 @@ pub bounds-w-i-in-loop-section : goal.bounds-w-i-in-loop-section
 bounds-w-i-in-loop-section c = omega (arith, few c.loop-section.w (frame (goal.at.bounds-w-i-in-loop-section c).Else-frame_out))
 
 pub visit-requires : goal.visit-requires
-visit-requires c = let i = c.loop-section.invariant.1 in (omega (arith, newest_long c.args.h.nodes c.loop-section.w.count c.loop-section.w.width (newest c.loop-section.w) (newest-in (goal.at.visit-requires c).Else-newest_out), i), omega (arith, wide c.loop-section.w (frame (goal.at.visit-requires c).Else-frame_out), i))
+visit-requires c =
+    let at_newest = (goal.at.visit-requires c).Else-newest_out in
+    let at_frame = (goal.at.visit-requires c).Else-frame_out in
+    let i = c.loop-section.invariant.1 in (
+      omega (arith, newest_long c.args.h.nodes c.loop-section.w.count c.loop-section.w.width (newest c.loop-section.w) (newest-in at_newest), i),
+      omega (arith, wide c.loop-section.w (frame at_frame), i),
+    )
 
 pub returns-in-Out : goal.returns-in-Out
 returns-in-Out c = rw c.no_place-none.ensures (sym (whole (goal.at.returns-in-Out c).Else-not-fits ∙ went (goal.at.returns-in-Out c).After-visit (shaped (goal.at.returns-in-Out c).Else-newest_out) _ c.in-Out.is))
 
 pub child-right-requires : goal.child-right-requires
-child-right-requires c = let o = opens (goal.at.child-right-requires c).After-visit (frame (goal.at.child-right-requires c).Else-frame_out) (newest-in (goal.at.child-right-requires c).Else-newest_out) c.in-Opened.is in record { readable = readable (tree_of _ _ (fitted (goal.at.child-right-requires c).Else-not-fits)) o.0 (omega arith); len_lt_width = (o.1, o.2) }
+child-right-requires c =
+    let at_visit = (goal.at.child-right-requires c).After-visit in
+    let at_frame = (goal.at.child-right-requires c).Else-frame_out in
+    let at_newest = (goal.at.child-right-requires c).Else-newest_out in
+    let at_fits = (goal.at.child-right-requires c).Else-not-fits in
+    let o = opens at_visit (frame at_frame) (newest-in at_newest) c.in-Opened.is in
+    record { readable = readable (tree_of _ _ (fitted at_fits)) o.0 (omega arith); len_lt_width = (o.1, o.2) }
 
 pub child-left-requires : goal.child-left-requires
-child-left-requires c = let o = opens (goal.at.child-left-requires c).After-visit (frame (goal.at.child-left-requires c).Else-frame_out) (newest-in (goal.at.child-left-requires c).Else-newest_out) c.in-Opened.is in record { readable = readable (tree_of _ _ (fitted (goal.at.child-left-requires c).Else-not-fits)) o.0 (omega arith); len_lt_width = (o.1, o.2) }
+child-left-requires c =
+    let at_visit = (goal.at.child-left-requires c).After-visit in
+    let at_frame = (goal.at.child-left-requires c).Else-frame_out in
+    let at_newest = (goal.at.child-left-requires c).Else-newest_out in
+    let at_fits = (goal.at.child-left-requires c).Else-not-fits in
+    let o = opens at_visit (frame at_frame) (newest-in at_newest) c.in-Opened.is in
+    record { readable = readable (tree_of _ _ (fitted at_fits)) o.0 (omega arith); len_lt_width = (o.1, o.2) }
 
 pub offset_bounds-w-i-in-Opened : goal.offset_bounds-w-i-in-Opened
 offset_bounds-w-i-in-Opened c = omega (arith, few c.loop-section.w (frame (goal.at.offset_bounds-w-i-in-Opened c).Else-frame_out))

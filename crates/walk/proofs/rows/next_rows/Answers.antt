@@ -140,7 +140,12 @@ pub shape_of-out-then-frame_out : goal.shape_of-out-then-frame_out
 shape_of-out-then-frame_out c = c.rows.invariant.2
 
 pub returns-then-frame_out : goal.returns-then-frame_out
-returns-then-frame_out c = sym (rows_start _ _ (fitted (goal.at.returns-then-frame_out c).Else-not-fits) _ _ _ ∙ sym c.rows.invariant.6 ∙ rows_stop _ _ _ _ _ _ _ _ (goes_out _ _ _ _ c.if-first-eq0.false _ (out_by_frame _ _ (framed c.rows.w c.rows.invariant.3 c.frame_out.ensures ∙ c.if-frame_out.true))) _ (λ r. refl) _ _ c.rows-test.true _)
+returns-then-frame_out c =
+    let at_fits = (goal.at.returns-then-frame_out c).Else-not-fits in
+    sym
+    (rows_start _ _ (fitted at_fits) _ _ _
+    ∙ sym c.rows.invariant.6
+    ∙ rows_stop _ _ _ _ _ _ _ _ (goes_out _ _ _ _ c.if-first-eq0.false _ (out_by_frame _ _ (framed c.rows.w c.rows.invariant.3 c.frame_out.ensures ∙ c.if-frame_out.true))) _ (λ r. refl) _ _ c.rows-test.true _)
 
 pub offset_bounds-w-f : goal.offset_bounds-w-f
 offset_bounds-w-f c = omega (arith, (few c.rows.w (frame (goal.at.offset_bounds-w-f c).Else-frame_out)).0)
@@ -175,7 +180,13 @@ pub shape_of-out-then-newest_out : goal.shape_of-out-then-newest_out
 shape_of-out-then-newest_out c = c.loop-section.invariant.3 ∙ c.rows.invariant.2
 
 pub returns-then-newest_out : goal.returns-then-newest_out
-returns-then-newest_out c = sym (rows_start _ _ (fitted (goal.at.returns-then-newest_out c).Else-not-fits) _ _ _ ∙ sym c.rows.invariant.6 ∙ sym c.loop-section.invariant.9 ∙ rows_stop _ _ _ _ _ _ _ _ (goes_out _ _ _ _ (held_live c.args.image.now c.args.h c.loop-section.w c.loop-section.p c.loop-section.invariant.8 c.loop-section.invariant.6 c.loop-section.invariant.7) _ (held_out c.args.image.now c.args.h c.loop-section.w c.loop-section.p c.loop-section.invariant.8 c.loop-section.invariant.6 c.loop-section.invariant.7 true (tested c.args.h.nodes c.loop-section.w c.loop-section.p c.loop-section.invariant.4 c.newest_out.ensures ∙ c.if-newest_out.true))) _ (λ r. refl) _ _ c.loop-section.invariant.2 _)
+returns-then-newest_out c =
+    let at_fits = (goal.at.returns-then-newest_out c).Else-not-fits in
+    sym
+    (rows_start _ _ (fitted at_fits) _ _ _
+    ∙ sym c.rows.invariant.6
+    ∙ sym c.loop-section.invariant.9
+    ∙ rows_stop _ _ _ _ _ _ _ _ (goes_out _ _ _ _ (held_live c.args.image.now c.args.h c.loop-section.w c.loop-section.p c.loop-section.invariant.8 c.loop-section.invariant.6 c.loop-section.invariant.7) _ (held_out c.args.image.now c.args.h c.loop-section.w c.loop-section.p c.loop-section.invariant.8 c.loop-section.invariant.6 c.loop-section.invariant.7 true (tested c.args.h.nodes c.loop-section.w c.loop-section.p c.loop-section.invariant.4 c.newest_out.ensures ∙ c.if-newest_out.true))) _ (λ r. refl) _ _ c.loop-section.invariant.2 _)
 
 pub offset_bounds-w-i-then-budget-n : goal.offset_bounds-w-i-then-budget-n
 offset_bounds-w-i-then-budget-n c = omega (arith, (few c.loop-section.w c.loop-section.invariant.7).0, c.loop-section.invariant.6)
@@ -188,7 +199,13 @@ shape_of-out-then-budget-n c = c.loop-section.invariant.3 ∙ c.rows.invariant.2
 
 pub returns-then-budget-n : goal.returns-then-budget-n
 returns-then-budget-n c = let e : c.args.budget - c.loop-section.n ≡ 0 = omega (arith, c.if-budget-n.true) in
-    sym (rows_start _ _ (fitted (goal.at.returns-then-budget-n c).Else-not-fits) _ _ _ ∙ sym c.rows.invariant.6 ∙ sym c.loop-section.invariant.9 ∙ rows_stop _ _ _ _ _ _ _ _ (goes_paused _ _ _ _ (held_live c.args.image.now c.args.h c.loop-section.w c.loop-section.p c.loop-section.invariant.8 c.loop-section.invariant.6 c.loop-section.invariant.7) (held_out c.args.image.now c.args.h c.loop-section.w c.loop-section.p c.loop-section.invariant.8 c.loop-section.invariant.6 c.loop-section.invariant.7 false (inside (goal.at.returns-then-budget-n c).Else-newest_out)) _ e) _ (λ r. refl) _ _ c.loop-section.invariant.2 _)
+    let at_fits = (goal.at.returns-then-budget-n c).Else-not-fits in
+    let at_newest = (goal.at.returns-then-budget-n c).Else-newest_out in
+    sym
+    (rows_start _ _ (fitted at_fits) _ _ _
+    ∙ sym c.rows.invariant.6
+    ∙ sym c.loop-section.invariant.9
+    ∙ rows_stop _ _ _ _ _ _ _ _ (goes_paused _ _ _ _ (held_live c.args.image.now c.args.h c.loop-section.w c.loop-section.p c.loop-section.invariant.8 c.loop-section.invariant.6 c.loop-section.invariant.7) (held_out c.args.image.now c.args.h c.loop-section.w c.loop-section.p c.loop-section.invariant.8 c.loop-section.invariant.6 c.loop-section.invariant.7 false (inside at_newest)) _ e) _ (λ r. refl) _ _ c.loop-section.invariant.2 _)
 
 pub child-right-requires : goal.child-right-requires
 child-right-requires c = let o = plain-opens (goal.at.child-right-requires c).After-is_plain_node c.if-is_plain_node.true in record { readable = readable (tree_of _ _ (fitted (goal.at.child-right-requires c).Else-not-fits)) o.0 (omega arith); len_lt_width = (o.1, o.2) }
@@ -266,25 +283,57 @@ pub shape_of-out-in-Failed : goal.shape_of-out-in-Failed
 shape_of-out-in-Failed c = c.loop-section.invariant.3 ∙ c.rows.invariant.2
 
 pub returns-in-Failed : goal.returns-in-Failed
-returns-in-Failed c = rw c.no_place-none.ensures (sym (rows_start _ _ (fitted (goal.at.returns-in-Failed c).Else-not-fits) _ _ _ ∙ sym c.rows.invariant.6 ∙ sym c.loop-section.invariant.9 ∙ rows_stop _ _ _ _ _ _ _ _ (went (goal.at.returns-in-Failed c).After-taking _ (c.in-Out.is ∙ ap Out c.in-Failed.is)) _ (λ r. refl) _ _ c.loop-section.invariant.2 _))
+returns-in-Failed c =
+    let at_fits = (goal.at.returns-in-Failed c).Else-not-fits in
+    let at_taking = (goal.at.returns-in-Failed c).After-taking in
+    rw c.no_place-none.ensures
+    (sym
+    (rows_start _ _ (fitted at_fits) _ _ _
+    ∙ sym c.rows.invariant.6
+    ∙ sym c.loop-section.invariant.9
+    ∙ rows_stop _ _ _ _ _ _ _ _ (went at_taking _ (c.in-Out.is ∙ ap Out c.in-Failed.is)) _ (λ r. refl) _ _ c.loop-section.invariant.2 _))
 
 pub shape_of-out-in-Refused : goal.shape_of-out-in-Refused
 shape_of-out-in-Refused c = c.loop-section.invariant.3 ∙ c.rows.invariant.2
 
 pub returns-in-Refused : goal.returns-in-Refused
-returns-in-Refused c = rw c.no_place-none.ensures (sym (rows_start _ _ (fitted (goal.at.returns-in-Refused c).Else-not-fits) _ _ _ ∙ sym c.rows.invariant.6 ∙ sym c.loop-section.invariant.9 ∙ rows_stop _ _ _ _ _ _ _ _ (went (goal.at.returns-in-Refused c).After-taking _ (c.in-Out.is ∙ ap Out c.in-Refused.is)) _ (λ r. refl) _ _ c.loop-section.invariant.2 _))
+returns-in-Refused c =
+    let at_fits = (goal.at.returns-in-Refused c).Else-not-fits in
+    let at_taking = (goal.at.returns-in-Refused c).After-taking in
+    rw c.no_place-none.ensures
+    (sym
+    (rows_start _ _ (fitted at_fits) _ _ _
+    ∙ sym c.rows.invariant.6
+    ∙ sym c.loop-section.invariant.9
+    ∙ rows_stop _ _ _ _ _ _ _ _ (went at_taking _ (c.in-Out.is ∙ ap Out c.in-Refused.is)) _ (λ r. refl) _ _ c.loop-section.invariant.2 _))
 
 pub shape_of-out-in-Paused : goal.shape_of-out-in-Paused
 shape_of-out-in-Paused c = c.loop-section.invariant.3 ∙ c.rows.invariant.2
 
 pub returns-in-Paused : goal.returns-in-Paused
-returns-in-Paused c = rw c.no_place-none.ensures (sym (rows_start _ _ (fitted (goal.at.returns-in-Paused c).Else-not-fits) _ _ _ ∙ sym c.rows.invariant.6 ∙ sym c.loop-section.invariant.9 ∙ rows_stop _ _ _ _ _ _ _ _ (went (goal.at.returns-in-Paused c).After-taking _ (c.in-Out.is ∙ ap Out c.in-Paused.is)) _ (λ r. refl) _ _ c.loop-section.invariant.2 _))
+returns-in-Paused c =
+    let at_fits = (goal.at.returns-in-Paused c).Else-not-fits in
+    let at_taking = (goal.at.returns-in-Paused c).After-taking in
+    rw c.no_place-none.ensures
+    (sym
+    (rows_start _ _ (fitted at_fits) _ _ _
+    ∙ sym c.rows.invariant.6
+    ∙ sym c.loop-section.invariant.9
+    ∙ rows_stop _ _ _ _ _ _ _ _ (went at_taking _ (c.in-Out.is ∙ ap Out c.in-Paused.is)) _ (λ r. refl) _ _ c.loop-section.invariant.2 _))
 
 pub shape_of-out-in-End : goal.shape_of-out-in-End
 shape_of-out-in-End c = c.loop-section.invariant.3 ∙ c.rows.invariant.2
 
 pub returns-in-End : goal.returns-in-End
-returns-in-End c = rw c.no_place-none.ensures (sym (rows_start _ _ (fitted (goal.at.returns-in-End c).Else-not-fits) _ _ _ ∙ sym c.rows.invariant.6 ∙ sym c.loop-section.invariant.9 ∙ rows_stop _ _ _ _ _ _ _ _ (went (goal.at.returns-in-End c).After-taking _ (c.in-Out.is ∙ ap Out c.in-End.is)) _ (λ r. refl) _ _ c.loop-section.invariant.2 _))
+returns-in-End c =
+    let at_fits = (goal.at.returns-in-End c).Else-not-fits in
+    let at_taking = (goal.at.returns-in-End c).After-taking in
+    rw c.no_place-none.ensures
+    (sym
+    (rows_start _ _ (fitted at_fits) _ _ _
+    ∙ sym c.rows.invariant.6
+    ∙ sym c.loop-section.invariant.9
+    ∙ rows_stop _ _ _ _ _ _ _ _ (went at_taking _ (c.in-Out.is ∙ ap Out c.in-End.is)) _ (λ r. refl) _ _ c.loop-section.invariant.2 _))
 
 pub child-right-requires-in-Opened : goal.child-right-requires-in-Opened
 child-right-requires-in-Opened c = let o = opens (goal.at.child-right-requires-in-Opened c).After-taking c.in-Opened.is in record { readable = readable (tree_of _ _ (fitted (goal.at.child-right-requires-in-Opened c).Else-not-fits)) o.0 (omega arith); len_lt_width = (o.1, o.2) }
