@@ -16,55 +16,50 @@ pub struct Charge {
     pub payload: usize,
 }
 
-#[derive(Clone, Copy)]
-pub enum Charged {
-    Within(Charge),
-    Over,
-}
-
 // A charge may be forged, so the room left is no plain difference.
 fn room_left(used: usize, most: usize) -> usize
     ensures { result ≡ room_left used most }
 {
-    if used <= most { most - used } else { 0 }
+    most.saturating_sub(used)
 }
 
 // The map or array that is entered first counts itself.
 fn since_entry(values: usize) -> usize
     ensures { result ≡ since_entry values }
 {
-    if values == 0 { 1 } else { values }
+    values.max(1)
 }
 
-// A map or array is entered: its children are charged before any of them is read.
-pub fn reserve_values(c: Charge, count: usize) -> Charged
+// A map or array is entered: its children are charged before any of them is read. None where there is no room for them.
+#[tactic(auto, unfolding(crate::specs::Charge::entered))]
+pub fn reserve_values(c: Charge, count: usize) -> Option<Charge>
     ensures { result ≡ entered c count }
 {
     let values = since_entry(c.values);
     if count <= room_left(values, MAXIMUM_DATA_STRUCTURE_VALUES) {
-        Charged::Within(Charge {
+        Some(Charge {
             values: values + count,
             payload: c.payload,
         })
     } else {
-        Charged::Over
+        None
     }
 }
 
 // A text or bytes of this size is handed out; nothing is charged before a map or array is entered.
-pub fn count_payload(c: Charge, size: usize) -> Charged
+#[tactic(auto, unfolding(crate::specs::Charge::paid))]
+pub fn count_payload(c: Charge, size: usize) -> Option<Charge>
     ensures { result ≡ paid c size }
 {
     if c.values == 0 {
-        return Charged::Within(c);
+        return Some(c);
     }
-    let payload = c.payload;
-    if size <= room_left(payload, MAXIMUM_DATA_STRUCTURE_BYTES) {
-        Charged::Within(Charge {
+    if size <= room_left(c.payload, MAXIMUM_DATA_STRUCTURE_BYTES) {
+        Some(Charge {
             values: c.values,
-            payload: payload + size,
+            payload: c.payload + size,
         })
     } else {
-        Charged::Over
+        None
     }
 }
