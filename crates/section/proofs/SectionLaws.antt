@@ -2,6 +2,7 @@
 use Prim.Native.Nat.{ℕ, zero, suc, ◌+◌, ◌≤◌, ◌<◌}
 use mathlib.Core.Path.{◌≡◌, refl, ap, ◌∙◌}
 use mathlib.Core.List.{List, [], ◌∷◌}
+use Rattle.std.specs.Prelude.{Ok}
 use lib.ListN.{length, get_or, take, drop, length-take}
 use lib.Seq.{take-take, drop-drop, get_or-drop}
 use mathlib.Core.Bool.{true}
@@ -11,18 +12,19 @@ use borrow.Author.Tests.{ltb-true}
 use Rattle.number.proofs.Tests.{chosen_first}
 use Rattle.handle.specs.Handle.{fits_of}
 use Rattle.handle.specs.declared.Handle.{Handle}
+use Rattle.handle.proofs.HandleLaws.{fit}
 use Rattle.section.specs.Section.{data_length, section_of, barred_of}
-use Rattle.section.specs.declared.Barred.TheVariants.{Free, By}
-
-by : {r : ℕ} → By r ≡ Free → ⊥
-by e = let z : ◌≡◌ {A = ℕ} 0 1 = cc in omega arith
 
 -- a place may be looked at: the handle fits, and the place is in the data section
-pub free : (h : Handle) (n place : ℕ) → barred_of h n place ≡ Free → (fits_of h n ≡ true) × (place < data_length h)
+pub free : (h : Handle) (n place : ℕ) → barred_of h n place ≡ Ok tt → (fits_of h n ≡ true) × (place < data_length h)
 unfolding barred_of
 free h n place e =
-    let c = chosen_first (fits_of h n) by e in
-    (c.0, ltb-true place (data_length h) (chosen_first (ltb place (data_length h)) by c.1).0)
+    let c = chosen_first (fits_of h n) (λ x. cc x) e in
+    (c.0, ltb-true place (data_length h) (chosen_first (ltb place (data_length h)) (λ x. cc x) c.1).0)
+
+-- the marker stands past the data section's start, in the image
+pub marked : (h : Handle) (n : ℕ) → fits_of h n ≡ true → (h.base + 14 ≤ h.meta) × (h.meta ≤ n)
+marked h n e = ((fit h n e).marked, (fit h n e).whole)
 
 -- a part of a list's front is a part of the list
 part_take : (p n front : ℕ) (l : List ℕ) → p + n ≤ front → take n (drop p (take front l)) ≡ take n (drop p l)

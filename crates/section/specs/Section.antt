@@ -1,10 +1,9 @@
 -- The data section of an image, and the refusals before a value is looked at: docs/SCOPE.md, "In which order".
-use Rattle.std.specs.Prelude.{ℕ, ◌-◌, List, cond, take, drop, ltb}
+use Rattle.std.specs.Prelude.{ℕ, ◌-◌, List, cond, take, drop, ltb, Result, Ok, Err}
 use Rattle.handle.specs.Handle.{fits_of}
 use Rattle.handle.specs.declared.Handle.{Handle}
-use Rattle.refusal.specs.Refusals as refusal
-use Rattle.section.specs.declared.Barred.{Barred}
-use Rattle.section.specs.declared.Barred.TheVariants.{Free, By}
+use Rattle.refusal.specs.declared.Refusal.{Refusal}
+use Rattle.refusal.specs.declared.Refusal.TheVariants as refusal
 
 -- how long the data section is: it ends where the marker starts
 abbrev pub data_length : Handle → ℕ
@@ -14,10 +13,10 @@ abbrev pub section_of : List ℕ → Handle → List ℕ
 section_of image h = take (data_length h) (drop h.base image)
 
 -- 9, then 15
-unfoldable pub barred_of : Handle → ℕ → ℕ → Barred
-barred_of h n place = cond (fits_of h n) (cond (ltb place (data_length h)) Free (By refusal.offset)) (By refusal.handle)
+unfoldable pub barred_of : Handle → ℕ → ℕ → Result (Unit {0}) Refusal
+barred_of h n place = cond (fits_of h n) (cond (ltb place (data_length h)) (Ok tt) (Err refusal.Offset)) (Err refusal.Handle)
 
--- an entry that looks at a value refuses with the number, or goes on
-abbrev pub gated : {A : Type 0} → Barred → (ℕ → A) → A → A
-gated Free refuse answer = answer
-gated (By r) refuse answer = refuse r
+-- an entry that looks at a value refuses, or goes on
+abbrev pub gated : {A : Type 0} → Result (Unit {0}) Refusal → (Refusal → A) → A → A
+gated (Ok passed) refuse answer = answer
+gated (Err r) refuse answer = refuse r

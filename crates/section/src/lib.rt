@@ -6,16 +6,10 @@ ghost use Rattle.handle.specs.Handle.{fits_of};
 ghost use Rattle.section.specs.Section.{section_of, barred_of};
 
 use handle::{Handle, fits};
-use refusal::{HANDLE, OFFSET};
-
-// Whether a place may be looked at, or the number of the refusal.
-#[derive(Clone, Copy)]
-pub enum Barred {
-    Free,
-    By(u8),
-}
+use refusal::Refusal;
 
 // It ends where the marker starts.
+#[tactic(auto, using(crate::proofs::SectionLaws::marked))]
 pub fn data_section<'a>(image: &'a [u8], h: Handle) -> &'a [u8]
     requires { fits_of h (length image.now) ≡ true }
     ensures result_value { result.now ≡ section_of image.now h }
@@ -26,16 +20,16 @@ pub fn data_section<'a>(image: &'a [u8], h: Handle) -> &'a [u8]
     &image[from..end]
 }
 
-pub fn gate(h: Handle, n: usize, place: usize) -> Barred
+// Whether a place may be looked at.
+#[tactic(auto, using(crate::proofs::SectionLaws::marked), unfolding(crate::specs::Section::barred_of))]
+pub fn gate(h: Handle, n: usize, place: usize) -> Result<(), Refusal>
     ensures { result ≡ barred_of h n place }
 {
-    if fits(h, n as u64) {
-        if (place as u64) < h.meta - 14 - h.base {
-            Barred::Free
-        } else {
-            Barred::By(OFFSET)
-        }
-    } else {
-        Barred::By(HANDLE)
+    if !fits(h, n as u64) {
+        return Err(Refusal::Handle);
     }
+    if h.meta - 14 - h.base <= place as u64 {
+        return Err(Refusal::Offset);
+    }
+    Ok(())
 }
