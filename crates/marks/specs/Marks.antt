@@ -3,6 +3,8 @@
 use Rattle.std.specs.Prelude.{ℕ, zero, suc, ◌+◌, ◌-◌, ◌*◌, ◌/◌, ◌%◌, ◌^◌, ◌<◌, min, List, [], ◌∷◌, Bool, false, cond, ◌||◌, get_or, set, eqb}
 use Rattle.std.specs.Int.Bits.{bit_or}
 use Rattle.std.specs.Int.Count.{count_trailing_zeros}
+use Rattle.marks.specs.declared.Mark.{Mark}
+use Rattle.marks.specs.declared.Mark.TheVariants as mark
 
 abbrev pub free : ℕ
 free = 0
@@ -15,6 +17,13 @@ validated = 2
 
 abbrev pub active : ℕ
 active = 3
+
+-- the number that the two bits of a state make
+abbrev pub number_of : Mark → ℕ
+number_of mark.Free = free
+number_of mark.Recorded = recorded
+number_of mark.Validated = validated
+number_of mark.Active = active
 
 -- bit s of the word w
 unfoldable pub bit : ℕ → ℕ → ℕ

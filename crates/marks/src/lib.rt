@@ -2,15 +2,24 @@
 #![tactic(auto)]
 
 ghost use Rattle.std.specs.Prelude.{◌≡◌, ◌++◌, ◌+◌, ◌*◌, ◌/◌, ◌^◌, ◌<◌, ◌≤◌, length, drop, replicate};
-ghost use Rattle.marks.specs.Marks.{bit, put, state_at, set_state, marked, next_marked, size_of};
+ghost use Rattle.marks.specs.Marks.{number_of, bit, put, state_at, set_state, marked, next_marked, size_of};
 
-pub const FREE: u64 = 0;
+// What verification knows of a place, in the order of the numbers that its two bits make.
+#[derive(Clone, Copy, PartialEq, Eq)]
+pub enum Mark {
+    Free,
+    Recorded,
+    Validated,
+    Active,
+}
 
-pub const RECORDED: u64 = 1;
-
-pub const VALIDATED: u64 = 2;
-
-pub const ACTIVE: u64 = 3;
+impl Mark {
+    fn number(self) -> u64
+        ensures { result ≡ number_of self }
+    {
+        self as u64
+    }
+}
 
 fn bit(w: u64, s: usize) -> u64
     requires { s < 64 }
@@ -27,23 +36,29 @@ fn put(bits: &mut [u64], k: usize, s: usize, v: u64)
     bits[k] = (w - (bit(w, s) << s)) | (v << s);
 }
 
-pub fn state(bits: &[u64], t: usize) -> u64
+pub fn state(bits: &[u64], t: usize) -> Mark
     requires { t / 64 * 2 + 1 < length bits.now }
-    ensures { result ≡ state_at bits.now t }
+    ensures { number_of result ≡ state_at bits.now t }
 {
     let k = t / 64 * 2;
     let s = t % 64;
-    bit(bits[k], s) + 2 * bit(bits[k + 1], s)
+    match bit(bits[k], s) + 2 * bit(bits[k + 1], s) {
+        0 => Mark::Free,
+        1 => Mark::Recorded,
+        2 => Mark::Validated,
+        _ => Mark::Active,
+    }
 }
 
-pub fn set_state(bits: &mut [u64], t: usize, state: u64)
-    requires { (t / 64 * 2 + 1 < length bits.old) × (state < 4) }
-    ensures { bits.new ≡ set_state bits.old t state }
+pub fn set_state(bits: &mut [u64], t: usize, state: Mark)
+    requires { t / 64 * 2 + 1 < length bits.old }
+    ensures { bits.new ≡ set_state bits.old t (number_of state) }
 {
     let k = t / 64 * 2;
     let s = t % 64;
-    put(bits, k, s, state % 2);
-    put(bits, k + 1, s, state / 2);
+    let n = state.number();
+    put(bits, k, s, n % 2);
+    put(bits, k + 1, s, n / 2);
 }
 
 // The next place that may be marked: those between are not. It is in the same word, or begins the next.
@@ -53,12 +68,8 @@ pub fn next_marked(bits: &[u64], t: usize) -> usize
 {
     let s = t % 64;
     let rest = (bits[t / 64 * 2] >> s) / 2;
-    let zeros = u64::trailing_zeros(rest) as usize;
-    if zeros < 63 - s {
-        t + 1 + zeros
-    } else {
-        t + 1 + (63 - s)
-    }
+    let zeros = rest.trailing_zeros() as usize;
+    t + 1 + zeros.min(63 - s)
 }
 
 // The first n words are 0, the others as they were.
@@ -66,11 +77,7 @@ pub fn clear(bits: &mut [u64], n: usize)
     requires { n ≤ length bits.old }
     ensures { bits.new ≡ replicate n 0 ++ drop n bits.old }
 {
-    let mut i = 0;
-    while i < n {
-        bits[i] = 0;
-        i += 1;
-    }
+    bits[..n].fill(0);
 }
 
 // How many places are marked in the first n pairs of words.
@@ -78,11 +85,9 @@ pub fn count(bits: &[u64], n: usize) -> u64
     requires { (n * 2 ≤ length bits.now) × (n ≤ 67108864) }
     ensures { result ≡ size_of (marked bits.now) (n * 64) }
 {
-    let mut c: u64 = 0;
-    let mut i = 0;
-    while i < n {
-        c += u64::count_ones(bits[i * 2]) as u64;
-        i += 1;
+    let mut c = 0;
+    for i in 0..n {
+        c += bits[i * 2].count_ones() as u64;
     }
     c
 }

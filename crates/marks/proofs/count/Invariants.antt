@@ -1,10 +1,6 @@
-use mathlib.Core.Path.{◌≡◌}
-use Prim.Native.Nat.{◌≤◌, ◌-◌, ◌*◌}
+use Rattle.std.proofs.Common.{◌≡◌, ◌≤◌, ◌*◌}
 use Rattle.marks.specs.Marks.{size_of, marked}
 use Rattle.marks.proofs.count.Given as goal
 
 abbrev pub invariant-loop-i : goal.invariant-loop-i
-invariant-loop-i l = (l.i ≤ l.n) × (l.c ≤ l.i * 64) × (l.c ≡ size_of (marked l.bits) (l.i * 64))
-
-abbrev pub decreases-loop-i : goal.decreases-loop-i
-decreases-loop-i l = l.n - l.i
+invariant-loop-i l = (l.c ≤ l.i * 64) × (l.c ≡ size_of (marked l.bits) (l.i * 64))
