@@ -1,20 +1,27 @@
 -- Laws of what a way down ends in.
 use Prim.Native.Nat.{ℕ, ◌+◌, ◌-◌, ◌≤◌, ◌<◌}
-use mathlib.Core.Path.{◌≡◌, refl}
+use mathlib.Core.Path.{◌≡◌, refl, ap, sym, ◌∙◌}
 use mathlib.Core.Bool.{Bool, true, false}
 use native.Mathlib.Omega.{arith}
 use lib.Dec.{leb, ltb}
 use borrow.Author.Tests.{le-leb, lt-leb, leb-true, leb-false, lt-ltb, le-ltb, ltb-true, ltb-false}
-use Rattle.tree.specs.Lookup.{answer_of}
-use Rattle.tree.specs.declared.Answer.TheVariants.{Found, NotFound, Invalid}
+use Rattle.std.specs.Prelude.{Option, Some, None}
+use Rattle.tree.specs.Lookup.{found, answer_of}
+use Rattle.tree.specs.declared.Found.{Found}
 
--- what a way ends in: no data, an offset inside the data section, or refusal 11
+-- two that are the same, by their parts
+pub found_same : {o p : Option ℕ} {l m : ℕ} → Some (found o l) ≡ Some (found p m) → (o ≡ p) × (l ≡ m)
+found_same {o} {p} {l} {m} e =
+    let f : found o l ≡ found p m = cc in
+    (ap (λ (r : Found). r.offset) f, ap (λ (r : Found). r.len) f)
+
+-- what a way ends in: no data, an offset inside the data section, or nothing
 module _ (nodes room len : ℕ) where
-  pub answer_none : (node : ℕ) → node ≤ nodes → answer_of nodes room node len ≡ NotFound len
+  pub answer_none : (node : ℕ) → node ≤ nodes → answer_of nodes room node len ≡ Some (found None len)
   unfolding answer_of
   answer_none node h = simp (le-leb node nodes h)
 
-  pub answer_at : (offset : ℕ) → offset < room → answer_of nodes room (nodes + 16 + offset) len ≡ Found offset len
+  pub answer_at : (offset : ℕ) → offset < room → answer_of nodes room (nodes + 16 + offset) len ≡ Some (found (Some offset) len)
   unfolding answer_of
   answer_at offset h =
       let e : nodes + 16 + offset - nodes - 16 ≡ offset = omega arith in
@@ -25,11 +32,11 @@ module _ (nodes room len : ℕ) where
         lt-ltb offset room h,
       )
 
-  pub answer_near : (node : ℕ) → nodes < node → node < nodes + 16 → answer_of nodes room node len ≡ Invalid
+  pub answer_near : (node : ℕ) → nodes < node → node < nodes + 16 → answer_of nodes room node len ≡ None
   unfolding answer_of
   answer_near node g h = simp (lt-leb node nodes g, lt-ltb node (nodes + 16) h)
 
-  pub answer_far : (node : ℕ) → nodes + 16 + room ≤ node → answer_of nodes room node len ≡ Invalid
+  pub answer_far : (node : ℕ) → nodes + 16 + room ≤ node → answer_of nodes room node len ≡ None
   unfolding answer_of
   answer_far node h =
       simp (
@@ -39,7 +46,7 @@ module _ (nodes room len : ℕ) where
       )
 
   -- so what is found lies in the data section
-  pub answer_found : (node offset l : ℕ) → answer_of nodes room node len ≡ Found offset l → (offset < room) × (node ≡ nodes + 16 + offset) × (l ≡ len)
+  pub answer_found : (node offset l : ℕ) → answer_of nodes room node len ≡ Some (found (Some offset) l) → (offset < room) × (node ≡ nodes + 16 + offset) × (l ≡ len)
   answer_found node offset l e = first (leb node nodes) refl
     where
       Goal : Type 0
@@ -49,9 +56,11 @@ module _ (nodes room len : ℕ) where
       third g true p =
           let h : node - nodes - 16 < room = ltb-true (node - nodes - 16) room p in
           let q : nodes + 16 + (node - nodes - 16) ≡ node = omega arith in
-          let f : answer_of nodes room node len ≡ Found (node - nodes - 16) len = rw q at (answer_at (node - nodes - 16) h) in
+          let f : answer_of nodes room node len ≡ Some (found (Some (node - nodes - 16)) len) = rw q at (answer_at (node - nodes - 16) h) in
+          let same = found_same (sym e ∙ f) in
+          let s : Some offset ≡ Some (node - nodes - 16) = same.0 in
           let o : offset ≡ node - nodes - 16 = cc in
-          let m : l ≡ len = cc in
+          let m : l ≡ len = same.1 in
           (omega arith, omega arith, m)
       third g false p =
           let f = answer_far node (omega (arith, ltb-false (node - nodes - 16) room p)) in
@@ -68,6 +77,7 @@ module _ (nodes room len : ℕ) where
       first : (t : Bool) → leb node nodes ≡ t → Goal
       first true p =
           let f = answer_none node (leb-true node nodes p) in
+          let none : Some offset ≡ None = (found_same (sym e ∙ f)).0 in
           let z : ◌≡◌ {A = ℕ} 0 1 = cc in
           absurd (omega arith)
       first false p = second (leb-false node nodes p) (ltb node (nodes + 16)) refl

@@ -10,9 +10,8 @@ use lib.ListN.{length, get_or, take, drop, length-take, length-drop}
 use lib.Seq.{get_or-take, get_or-drop, ext_get_or}
 use lib.Dec.{eqb, ltb}
 use borrow.Author.Tests.{eq-eqb, ne_eqb, eqb-true, eqb-false, ltb-true, ltb-false}
+use Rattle.std.specs.Prelude.{Option, Some, None}
 use Rattle.tree.specs.Marker.{marker, agree, last_below, marker_of}
-use Rattle.tree.specs.declared.Marked.{Marked}
-use Rattle.tree.specs.declared.Marked.TheVariants.{At, Nowhere}
 
 pub agree_none : (s : List ℕ) (i : ℕ) → agree s i 0 ≡ true
 unfolding agree
@@ -42,34 +41,34 @@ last_miss s (suc k) p h =
     let e : suc k - 1 ≡ k = omega arith in
     rw e (simp (rw e at h))
 
-pub last_hit : (s : List ℕ) (k : ℕ) → 0 < k → agree s (k - 1) 14 ≡ true → last_below s k ≡ At (k - 1)
+pub last_hit : (s : List ℕ) (k : ℕ) → 0 < k → agree s (k - 1) 14 ≡ true → last_below s k ≡ Some (k - 1)
 unfolding last_below
 last_hit s zero p h = absurd (omega arith)
 last_hit s (suc k) p h =
     let e : suc k - 1 ≡ k = omega arith in
     rw e (simp (rw e at h))
 
-pub last_none : (s : List ℕ) (k : ℕ) → k ≤ 0 → last_below s k ≡ Nowhere
+pub last_none : (s : List ℕ) (k : ℕ) → k ≤ 0 → last_below s k ≡ None
 unfolding last_below
 last_none s zero h = refl
 last_none s (suc k) h = absurd (omega arith)
 
 -- what is known of the last place below k
-Last : List ℕ → ℕ → Marked → Type 0
-Last s k (At i) = (i < k) × (agree s i 14 ≡ true) × ((j : ℕ) → i < j → j < k → agree s j 14 ≡ false)
-Last s k Nowhere = (j : ℕ) → j < k → agree s j 14 ≡ false
+Last : List ℕ → ℕ → Option ℕ → Type 0
+Last s k (Some i) = (i < k) × (agree s i 14 ≡ true) × ((j : ℕ) → i < j → j < k → agree s j 14 ≡ false)
+Last s k None = (j : ℕ) → j < k → agree s j 14 ≡ false
 
 misses_more :
     (s : List ℕ) (i k : ℕ) → agree s k 14 ≡ false → ((j : ℕ) → i ≤ j → j < k → agree s j 14 ≡ false)
     → (j : ℕ) → i ≤ j → j < suc k → agree s j 14 ≡ false
 misses_more s i k e f j g h = ⊎_elim (f j g) (λ q. rw q e) (below_or_at j k h (ltb j k) refl)
 
-last_step : (s : List ℕ) (k : ℕ) (t : Bool) (m : Marked) → agree s k 14 ≡ t → Last s k m → Last s (suc k) (cond t (At k) m)
+last_step : (s : List ℕ) (k : ℕ) (t : Bool) (m : Option ℕ) → agree s k 14 ≡ t → Last s k m → Last s (suc k) (cond t (Some k) m)
 unfolding Last
 last_step s k true m e l = (omega arith, e, λ j g h. absurd (omega arith))
-last_step s k false (At i) e l =
+last_step s k false (Some i) e l =
     (omega (arith, l.0), l.1, λ j g h. misses_more s (suc i) k e (λ j g h. l.2 j (omega arith) h) j (omega arith) h)
-last_step s k false Nowhere e l = λ j h. misses_more s 0 k e (λ j g h. l j h) j (omega arith) h
+last_step s k false None e l = λ j h. misses_more s 0 k e (λ j g h. l j h) j (omega arith) h
 
 last : (s : List ℕ) (k : ℕ) → Last s k (last_below s k)
 unfolding last_below Last
@@ -112,17 +111,17 @@ never : (s : List ℕ) (i : ℕ) → agree s i 14 ≡ false → Stands s i → �
 never s i e h = false≢true (sym e ∙ stands_agree s i h)
 
 -- where the marker is found it stands whole, and at no later place
-pub marker_at : (s : List ℕ) (i : ℕ) → marker_of s ≡ At i → Stands s i × ((j : ℕ) → i < j → Stands s j → ⊥)
+pub marker_at : (s : List ℕ) (i : ℕ) → marker_of s ≡ Some i → Stands s i × ((j : ℕ) → i < j → Stands s j → ⊥)
 unfolding Last
 marker_at s i e =
-    let l : Last s (length s + 1 - 14) (At i) = subst (Last s (length s + 1 - 14)) e (known s) in
+    let l : Last s (length s + 1 - 14) (Some i) = subst (Last s (length s + 1 - 14)) e (known s) in
     (stands_of s i (omega (arith, l.0)) l.1, λ j g h. never s j (l.2 j g (omega (arith, stands_inside s j h))) h)
 
 -- and it is missed only where it stands nowhere
-pub marker_nowhere : (s : List ℕ) → marker_of s ≡ Nowhere → (i : ℕ) → Stands s i → ⊥
+pub marker_nowhere : (s : List ℕ) → marker_of s ≡ None → (i : ℕ) → Stands s i → ⊥
 unfolding Last
 marker_nowhere s e i h =
-    let l : Last s (length s + 1 - 14) Nowhere = subst (Last s (length s + 1 - 14)) e (known s) in
+    let l : Last s (length s + 1 - 14) None = subst (Last s (length s + 1 - 14)) e (known s) in
     never s i (l i (omega (arith, stands_inside s i h))) h
 
 -- so both determine the answer
@@ -134,18 +133,18 @@ same_place i j f g = pick (ltb i j) refl (ltb j i) refl
     pick false p true q = absurd (g (ltb-true j i q))
     pick false p false q = omega (arith, ltb-false i j p, ltb-false j i q)
 
-pub marker_found : (s : List ℕ) (i : ℕ) → Stands s i → ((j : ℕ) → i < j → Stands s j → ⊥) → marker_of s ≡ At i
+pub marker_found : (s : List ℕ) (i : ℕ) → Stands s i → ((j : ℕ) → i < j → Stands s j → ⊥) → marker_of s ≡ Some i
 marker_found s i h f = pick (marker_of s) refl
   where
-    pick : (m : Marked) → marker_of s ≡ m → marker_of s ≡ At i
-    pick (At k) e =
+    pick : (m : Option ℕ) → marker_of s ≡ m → marker_of s ≡ Some i
+    pick (Some k) e =
         let l = marker_at s k e in
-        e ∙ ap At (same_place k i (λ p. l.1 i p h) (λ p. f k p l.0))
-    pick Nowhere e = absurd (marker_nowhere s e i h)
+        e ∙ ap Some (same_place k i (λ p. l.1 i p h) (λ p. f k p l.0))
+    pick None e = absurd (marker_nowhere s e i h)
 
-pub marker_missing : (s : List ℕ) → ((i : ℕ) → Stands s i → ⊥) → marker_of s ≡ Nowhere
+pub marker_missing : (s : List ℕ) → ((i : ℕ) → Stands s i → ⊥) → marker_of s ≡ None
 marker_missing s f = pick (marker_of s) refl
   where
-    pick : (m : Marked) → marker_of s ≡ m → marker_of s ≡ Nowhere
-    pick (At k) e = absurd (f k (marker_at s k e).0)
-    pick Nowhere e = e
+    pick : (m : Option ℕ) → marker_of s ≡ m → marker_of s ≡ None
+    pick (Some k) e = absurd (f k (marker_at s k e).0)
+    pick None e = e

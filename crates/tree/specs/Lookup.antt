@@ -1,10 +1,9 @@
 -- The way down the tree, and what it ends in.
-use Rattle.std.specs.Prelude.{ℕ, zero, suc, ◌+◌, ◌-◌, ◌*◌, ◌/◌, ◌≤◌, cond, List, leb, ltb}
+use Rattle.std.specs.Prelude.{ℕ, zero, suc, ◌+◌, ◌-◌, ◌*◌, ◌/◌, ◌≤◌, cond, List, Option, Some, None, leb, ltb}
 use Rattle.number.specs.Keys.{bit_from_top}
 use Rattle.tree.specs.Record.{Sized, record_at}
 use Rattle.tree.specs.declared.Place.{Place}
-use Rattle.tree.specs.declared.Answer.{Answer}
-use Rattle.tree.specs.declared.Answer.TheVariants.{Found, NotFound, Invalid}
+use Rattle.tree.specs.declared.Found.{Found}
 
 -- a tree of the format, whose nodes lie in the first n bytes
 pub record Tree (n size nodes : ℕ) : Type 0 where
@@ -28,9 +27,13 @@ ipv4_start_of s size nodes = down s size nodes 0 128 0 96 0
 abbrev pub offset_of : ℕ → ℕ → ℕ
 offset_of nodes node = node - nodes - 16
 
+-- what is found: an offset, or no data, at a length
+abbrev pub found : Option ℕ → ℕ → Found
+found offset len = record { offset = offset; len = len }
+
 -- what a way ends in at a record, `len` being the length there and `room` that of the data section: no data at the node
--- count, and at a node met at full width; above the node count an offset inside the data section, or refusal 11
-unfoldable pub answer_of : ℕ → ℕ → ℕ → ℕ → Answer
+-- count, and at a node met at full width; above the node count an offset inside the data section, or nothing
+unfoldable pub answer_of : ℕ → ℕ → ℕ → ℕ → Option Found
 answer_of nodes room node len =
-    cond (leb node nodes) (NotFound len)
-    (cond (ltb node (nodes + 16)) Invalid (cond (ltb (offset_of nodes node) room) (Found (offset_of nodes node) len) Invalid))
+    cond (leb node nodes) (Some (found None len))
+    (cond (ltb node (nodes + 16)) None (cond (ltb (offset_of nodes node) room) (Some (found (Some (offset_of nodes node)) len)) None))

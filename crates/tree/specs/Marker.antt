@@ -1,7 +1,5 @@
 -- The metadata marker: its last occurrence counts.
-use Rattle.std.specs.Prelude.{ℕ, zero, suc, ◌+◌, ◌-◌, Bool, true, cond, ◌&&◌, List, [], ◌∷◌, length, get_or, eqb}
-use Rattle.tree.specs.declared.Marked.{Marked}
-use Rattle.tree.specs.declared.Marked.TheVariants.{At, Nowhere}
+use Rattle.std.specs.Prelude.{ℕ, zero, suc, ◌+◌, ◌-◌, Bool, true, cond, ◌&&◌, List, [], ◌∷◌, length, get_or, Option, Some, None, eqb}
 
 -- AB CD EF, then MaxMind.com
 abbrev pub marker : List ℕ
@@ -13,10 +11,10 @@ agree s i zero = true
 agree s i (suc k) = agree s i k && eqb (get_or s (i + k) 0) (get_or marker k 0)
 
 -- the last place below k at which the marker's 14 bytes stand
-unfoldable pub last_below : List ℕ → ℕ → Marked
-last_below s zero = Nowhere
-last_below s (suc k) = cond (agree s k 14) (At k) (last_below s k)
+unfoldable pub last_below : List ℕ → ℕ → Option ℕ
+last_below s zero = None
+last_below s (suc k) = cond (agree s k 14) (Some k) (last_below s k)
 
 -- the last place in s at which the marker stands whole
-unfoldable pub marker_of : List ℕ → Marked
+unfoldable pub marker_of : List ℕ → Option ℕ
 marker_of s = last_below s (length s + 1 - 14)

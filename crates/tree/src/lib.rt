@@ -5,13 +5,6 @@ pub mod lookup;
 pub mod marker;
 pub mod record;
 
-// Where the marker stands.
-#[derive(Clone, Copy)]
-pub enum Marked {
-    At(usize),
-    Nowhere,
-}
-
 // Where a way down the tree stops: a record's value, and how many bits led there.
 #[derive(Clone, Copy)]
 pub struct Place {
@@ -19,10 +12,9 @@ pub struct Place {
     pub depth: u64,
 }
 
-// What a way down ends in. `Invalid` is a record that gives no offset inside the data section.
+// What a way down ends in: the offset of its data, if there is any, and the length of its prefix.
 #[derive(Clone, Copy)]
-pub enum Answer {
-    Found { offset: u64, len: u64 },
-    NotFound { len: u64 },
-    Invalid,
+pub struct Found {
+    pub offset: Option<u64>,
+    pub len: u64,
 }

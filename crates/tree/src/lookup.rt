@@ -4,7 +4,7 @@ ghost use Rattle.number.specs.Keys.{number_of};
 ghost use Rattle.tree.specs.Lookup.{Tree, down, ipv4_start_of, answer_of};
 
 use crate::record::read_node;
-use crate::{Answer, Place};
+use crate::{Found, Place};
 use number::{Key, get_bit};
 
 // Goes down from `start` by the first `bits` bits of an address: all of them in a lookup, fewer to a range or the IPv4
@@ -26,19 +26,13 @@ pub fn descend(
     let mut depth: u64 = 0;
     while depth < bits {
         if nodes <= node {
-            return Place {
-                node: node,
-                depth: depth,
-            };
+            return Place { node, depth };
         }
         let bit = get_bit(key, width, depth);
         node = read_node(s, size, node, bit);
         depth += 1;
     }
-    Place {
-        node: node,
-        depth: depth,
-    }
+    Place { node, depth }
 }
 
 // Where IPv4 addresses start in a tree of IPv6 addresses.
@@ -49,24 +43,21 @@ pub fn find_ipv4_start(s: &[u8], size: u64, nodes: u64) -> Place
     descend(s, size, nodes, 0, Key { high: 0, low: 0 }, 128, 96)
 }
 
-// What a way ends in at a record, `len` being the length there and `room` that of the data section.
-pub fn answer(nodes: u64, room: u64, node: u64, len: u64) -> Answer
+// What a way ends in at a record, `len` being the length there and `room` that of the data section: nothing at a record
+// that gives no offset inside it.
+pub fn answer(nodes: u64, room: u64, node: u64, len: u64) -> Option<Found>
     ensures { result ≡ answer_of nodes room node len }
 {
     if node <= nodes {
-        return Answer::NotFound { len: len };
+        return Some(Found { offset: None, len });
     }
-    let over = node - nodes;
-    if over < 16 {
-        return Answer::Invalid;
-    }
-    let offset = over - 16;
+    let offset = (node - nodes).checked_sub(16)?;
     if offset < room {
-        Answer::Found {
-            offset: offset,
-            len: len,
-        }
+        Some(Found {
+            offset: Some(offset),
+            len,
+        })
     } else {
-        Answer::Invalid
+        None
     }
 }

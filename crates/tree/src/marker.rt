@@ -2,8 +2,6 @@
 ghost use Rattle.std.specs.Prelude.{◌≡◌, ◌+◌, ◌≤◌, length};
 ghost use Rattle.tree.specs.Marker.{agree, marker_of};
 
-use crate::Marked;
-
 const METADATA_START_MARKER: [u8; 14] = *b"\xab\xcd\xefMaxMind.com";
 
 fn stands(s: &[u8], at: usize) -> bool
@@ -21,18 +19,18 @@ fn stands(s: &[u8], at: usize) -> bool
 }
 
 // The last place at which the marker stands whole.
-pub fn find_marker(s: &[u8]) -> Marked
+pub fn find_marker(s: &[u8]) -> Option<usize>
     ensures { result ≡ marker_of s.now }
 {
     if s.len() < 14 {
-        return Marked::Nowhere;
+        return None;
     }
     let mut below = s.len() - 13;
     while 0 < below {
         below -= 1;
         if stands(s, below) {
-            return Marked::At(below);
+            return Some(below);
         }
     }
-    Marked::Nowhere
+    None
 }
