@@ -1,10 +1,9 @@
 -- Control bytes of a section s, a list of bytes: the specification's "Data Field Format" and "Payload Size".
-use Rattle.std.specs.Prelude.{ℕ, ◌+◌, ◌/◌, ◌%◌, List, Bool, cond, length, get_or, ltb, leb, eqb}
+use Rattle.std.specs.Prelude.{ℕ, ◌+◌, ◌/◌, ◌%◌, List, Bool, Option, Some, None, cond, length, get_or, ltb, leb, eqb}
 use Rattle.number.specs.Bytes.{be_at}
 use Rattle.control.specs.declared.Kind.{Kind}
 use Rattle.control.specs.declared.Kind.TheVariants as kind
 use Rattle.control.specs.declared.Head.{Head}
-use Rattle.control.specs.declared.Head.TheVariants.{At, Bad}
 
 -- the kind of a type number
 unfoldable pub kind_of : ℕ → Kind
@@ -47,28 +46,36 @@ is_type k n = eqb (type_number k) n
 abbrev pub is_pointer : Kind → Bool
 is_pointer k = is_type k 1
 
+-- a header
+abbrev pub head : Kind → ℕ → ℕ → Head
+head k n p = record { kind = k; size = n; payload = p }
+
+-- a number of n bytes from p on, which counts from base, and where what follows it begins
+abbrev pub counted_at : List ℕ → ℕ → ℕ → ℕ → Option (ℕ × ℕ)
+counted_at s base n p = cond (leb (p + n) (length s)) (Some (base + be_at s p n, p + n)) None
+
 -- a size with n more bytes, which count from base
-abbrev pub more_at : List ℕ → Kind → ℕ → ℕ → ℕ → Head
-more_at s k base n p = cond (leb (p + n) (length s)) (At k (base + be_at s p n) (p + n)) Bad
+abbrev pub more_at : List ℕ → Kind → ℕ → ℕ → ℕ → Option Head
+more_at s k base n p = cond (leb (p + n) (length s)) (Some (head k (base + be_at s p n) (p + n))) None
 
 -- the size codes: below 29 the size itself; 29, 30, 31 add 1, 2, 3 bytes to 29, 285, 65,821
-unfoldable pub size_at : List ℕ → Kind → ℕ → ℕ → Head
+unfoldable pub size_at : List ℕ → Kind → ℕ → ℕ → Option Head
 size_at s k code p =
-    cond (leb code 28) (At k code p)
+    cond (leb code 28) (Some (head k code p))
     (cond (eqb code 29) (more_at s k 29 1 p)
     (cond (eqb code 30) (more_at s k 285 2 p)
     (cond (eqb code 31) (more_at s k 65821 3 p)
-    Bad)))
+    None)))
 
 -- a pointer takes no size bytes: the code is kept as it is
-unfoldable pub sized_at : List ℕ → Kind → ℕ → ℕ → Head
-sized_at s k code p = cond (is_pointer k) (At k code p) (size_at s k code p)
+unfoldable pub sized_at : List ℕ → Kind → ℕ → ℕ → Option Head
+sized_at s k code p = cond (is_pointer k) (Some (head k code p)) (size_at s k code p)
 
 -- the control byte at p: the top three bits are the type number, or 0 where the next byte plus 7 is; the low five are the size code
-unfoldable pub head_at : List ℕ → ℕ → Head
+unfoldable pub head_at : List ℕ → ℕ → Option Head
 head_at s p =
     cond (ltb p (length s))
     (cond (eqb (get_or s p 0 / 32) 0)
-    (cond (ltb (p + 1) (length s)) (sized_at s (kind_of (get_or s (p + 1) 0 + 7)) (get_or s p 0 % 32) (p + 2)) Bad)
+    (cond (ltb (p + 1) (length s)) (sized_at s (kind_of (get_or s (p + 1) 0 + 7)) (get_or s p 0 % 32) (p + 2)) None)
     (sized_at s (kind_of (get_or s p 0 / 32)) (get_or s p 0 % 32) (p + 1)))
-    Bad
+    None
