@@ -6,6 +6,8 @@ use mathlib.Core.List.{List}
 use lib.Dec.{eqb}
 use native.Mathlib.Omega.{arith}
 use Rattle.number.specs.Keys.{number_of}
+use Rattle.std.specs.Prelude.{Ok, Err}
+use Rattle.refusal.specs.declared.Refusal.TheVariants as refusal
 use Rattle.handle.specs.declared.Handle.{Handle}
 use Rattle.handle.proofs.HandleLaws.{Fit}
 use Rattle.tree.proofs.RecordLaws.{Same}
@@ -14,13 +16,9 @@ use Rattle.lookup.specs.Lookup.{asked_of, found_from, Fitting}
 use Rattle.lookup.specs.declared.Address.{Address}
 use Rattle.lookup.specs.declared.Address.TheVariants.{V4, V6}
 use Rattle.lookup.specs.declared.Way.{Way}
-use Rattle.lookup.specs.declared.Asked.TheVariants as asked
-
-refused : {r : ℕ} {w : Way} → asked.Refused r ≡ asked.By w → ⊥
-refused e = let z : ◌≡◌ {A = ℕ} 0 1 = cc in omega arith
 
 -- the way of any address in an image that the handle fits
-pub asked_fitting : (h : Handle) (n : ℕ) → Fit h n → (a : Address) (w : Way) → asked_of h a ≡ asked.By w → Fitting w
+pub asked_fitting : (h : Handle) (n : ℕ) → Fit h n → (a : Address) (w : Way) → asked_of h a ≡ Ok w → Fitting w
 unfolding asked_of
 asked_fitting h n f (V4 low) w e =
     let way : Way = record { start = h.start4; depth = h.depth4; width = 32; key = record { high = 0; low = low } } in
@@ -31,8 +29,8 @@ asked_fitting h n f (V6 high low) w e = go (eqb h.version 4) e
     way : Way
     way = record { start = 0; depth = 0; width = 128; key = record { high = high; low = low } }
 
-    go : (b : Bool) → cond b (asked.Refused 10) (asked.By way) ≡ asked.By w → Fitting w
-    go true e = absurd (refused e)
+    go : (b : Bool) → cond b (Err refusal.Ipv6InIpv4) (Ok way) ≡ Ok w → Fitting w
+    go true e = cc
     go false e = let g : way ≡ w = cc in subst Fitting g (record { wide = omega arith; shallow = omega arith })
 
 -- a lookup depends on the tree's bytes alone, besides the handle

@@ -3,25 +3,18 @@
 
 ghost use Rattle.std.specs.Prelude.{◌≡◌, true, length};
 ghost use Rattle.handle.specs.Handle.{fits_of};
-ghost use Rattle.lookup.specs.Lookup.{Fitting, numbered, asked_of, found_from};
+ghost use Rattle.lookup.specs.Lookup.{Fitting, asked_of, found_from};
 
 use handle::Handle;
 use number::Key;
-use refusal::{IPV6_IN_IPV4, RECORD};
-use tree::Answer;
+use refusal::Refusal;
+use tree::Found;
 use tree::lookup::{answer, descend};
 
 #[derive(Clone, Copy)]
 pub enum Address {
     V4(u32),
     V6(u64, u64),
-}
-
-#[derive(Clone, Copy)]
-pub enum Found {
-    Data { offset: u64, len: u64 },
-    NoData { len: u64 },
-    Refused(u8),
 }
 
 // The way that an address takes: from which record, at which depth, by how many bits of which key.
@@ -33,57 +26,37 @@ pub struct Way {
     pub key: Key,
 }
 
-#[derive(Clone, Copy)]
-pub enum Asked {
-    By(Way),
-    Refused(u8),
-}
-
 // An IPv4 address goes on from the IPv4 start, which in an IPv4 image is the root.
-pub fn way_of(h: Handle, address: Address) -> Asked
+#[tactic(auto, unfolding(crate::specs::Lookup::asked_of))]
+pub fn way_of(h: Handle, address: Address) -> Result<Way, Refusal>
     ensures { result ≡ asked_of h address }
 {
     match address {
-        Address::V4(low) => Asked::By(Way {
+        Address::V4(low) => Ok(Way {
             start: h.start4,
             depth: h.depth4,
             width: 32,
             key: Key {
                 high: 0,
-                low: low as u64,
+                low: u64::from(low),
             },
         }),
-        Address::V6(high, low) => {
-            if h.version == 4 {
-                Asked::Refused(IPV6_IN_IPV4)
-            } else {
-                Asked::By(Way {
-                    start: 0,
-                    depth: 0,
-                    width: 128,
-                    key: Key { high, low },
-                })
-            }
-        }
+        Address::V6(_, _) if h.version == 4 => Err(Refusal::Ipv6InIpv4),
+        Address::V6(high, low) => Ok(Way {
+            start: 0,
+            depth: 0,
+            width: 128,
+            key: Key { high, low },
+        }),
     }
 }
 
-fn refusing(a: Answer) -> Found
-    ensures { result ≡ numbered a }
-{
-    match a {
-        Answer::Found { offset, len } => Found::Data { offset, len },
-        Answer::NotFound { len } => Found::NoData { len },
-        Answer::Invalid => Found::Refused(RECORD),
-    }
-}
-
-pub fn find(image: &[u8], h: Handle, w: Way) -> Found
+pub fn find(image: &[u8], h: Handle, w: Way) -> Result<Found, Refusal>
     requires image_value { fits_of h (length image.now) ≡ true }
     requires fitting { Fitting w }
     ensures { result ≡ found_from image.now h w }
 {
-    let key = w.key;
-    let p = descend(image, h.size, h.nodes, w.start, key, w.width, w.width);
-    refusing(answer(h.nodes, h.meta - 14 - h.base, p.node, w.depth + p.depth))
+    let p = descend(image, h.size, h.nodes, w.start, w.key, w.width, w.width);
+    let found = answer(h.nodes, h.meta - 14 - h.base, p.node, w.depth + p.depth);
+    found.ok_or(Refusal::Record)
 }

@@ -10,8 +10,8 @@ use Rattle.tree.specs.Lookup.{found, answer_of}
 use Rattle.tree.specs.declared.Found.{Found}
 
 -- two that are the same, by their parts
-pub found_same : {o p : Option ℕ} {l m : ℕ} → Some (found o l) ≡ Some (found p m) → (o ≡ p) × (l ≡ m)
-found_same {o} {p} {l} {m} e =
+pub found_parts : {o p : Option ℕ} {l m : ℕ} → Some (found o l) ≡ Some (found p m) → (o ≡ p) × (l ≡ m)
+found_parts {o} {p} {l} {m} e =
     let f : found o l ≡ found p m = cc in
     (ap (λ (r : Found). r.offset) f, ap (λ (r : Found). r.len) f)
 
@@ -57,7 +57,7 @@ module _ (nodes room len : ℕ) where
           let h : node - nodes - 16 < room = ltb-true (node - nodes - 16) room p in
           let q : nodes + 16 + (node - nodes - 16) ≡ node = omega arith in
           let f : answer_of nodes room node len ≡ Some (found (Some (node - nodes - 16)) len) = rw q at (answer_at (node - nodes - 16) h) in
-          let same = found_same (sym e ∙ f) in
+          let same = found_parts (sym e ∙ f) in
           let s : Some offset ≡ Some (node - nodes - 16) = same.0 in
           let o : offset ≡ node - nodes - 16 = cc in
           let m : l ≡ len = same.1 in
@@ -77,7 +77,7 @@ module _ (nodes room len : ℕ) where
       first : (t : Bool) → leb node nodes ≡ t → Goal
       first true p =
           let f = answer_none node (leb-true node nodes p) in
-          let none : Some offset ≡ None = (found_same (sym e ∙ f)).0 in
+          let none : Some offset ≡ None = (found_parts (sym e ∙ f)).0 in
           let z : ◌≡◌ {A = ℕ} 0 1 = cc in
           absurd (omega arith)
       first false p = second (leb-false node nodes p) (ltb node (nodes + 16)) refl

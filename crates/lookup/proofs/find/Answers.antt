@@ -26,4 +26,4 @@ overflow_add-w c =
 
 pub returns : goal.returns
 unfolding found_from
-returns c = c.refusing.ensures ∙ simp (c.answer.ensures, c.descend-p.ensures)
+returns c = c.ok_or.ensures.value ∙ simp (c.answer-found.ensures, c.descend-p.ensures)
