@@ -1,22 +1,14 @@
 -- What a handle that fits says, as plain facts.
 use Prim.Native.Nat.{ℕ, ◌+◌, ◌-◌, ◌*◌, ◌/◌, ◌^◌, ◌≤◌}
 use mathlib.Core.Path.{◌≡◌, refl}
-use mathlib.Core.Bool.{Bool, true, false, not, ◌&&◌, ◌||◌, false≢true}
+use mathlib.Core.Bool.{Bool, true, false, not, ◌&&◌, ◌||◌}
 use mathlib.Core.Logic.{◌⊎◌, inl, inr, ⊎_elim}
-use native.Mathlib.Nat.{mul-le-mul}
 use native.Mathlib.Omega.{arith}
 use lib.Dec.{eqb, leb}
 use borrow.Author.Tests.{eqb-true, leb-true, eq-eqb, le-leb}
+use Rattle.std.proofs.lemmas.Bool.{and_parts, or_cases}
 use Rattle.handle.specs.Handle.{image_bound, version_known, size_known, numbers_known, data_start, sections_fit, ipv4_fits, fits_of}
 use Rattle.handle.specs.declared.Handle.{Handle}
-
-both : (a b : Bool) → (a && b) ≡ true → (a ≡ true) × (b ≡ true)
-both true b e = (refl, e)
-both false b e = absurd (false≢true e)
-
-either : (a b : Bool) → (a || b) ≡ true → (a ≡ true) ⊎ (b ≡ true)
-either true b e = inl refl
-either false b e = inr e
 
 -- a size of the format
 abbrev pub Sized : ℕ → Type 0
@@ -25,9 +17,9 @@ Sized size = (size ≡ 24) ⊎ ((size ≡ 28) ⊎ (size ≡ 32))
 pub sized : (size : ℕ) → size_known size ≡ true → Sized size
 sized size e =
     ⊎_elim
-    (λ p. ⊎_elim (λ q. inl (eqb-true size 24 q)) (λ q. inr (inl (eqb-true size 28 q))) (either (eqb size 24) (eqb size 28) p))
+    (λ p. ⊎_elim (λ q. inl (eqb-true size 24 q)) (λ q. inr (inl (eqb-true size 28 q))) (or_cases (eqb size 24) (eqb size 28) p))
     (λ p. inr (inr (eqb-true size 32 p)))
-    (either (eqb size 24 || eqb size 28) (eqb size 32) e)
+    (or_cases (eqb size 24 || eqb size 28) (eqb size 32) e)
 
 pub size_known_lem : {size : ℕ} → Sized size → size_known size ≡ true
 size_known_lem (inl e) = rw e
@@ -50,30 +42,30 @@ pub record Fit (h : Handle) (n : ℕ) : Type 0 where
 
 only_4 : (v start depth : ℕ) → (not (eqb v 4) || (eqb start 0 && eqb depth 0)) ≡ true → v ≡ 4 → (start ≡ 0) × (depth ≡ 0)
 only_4 v start depth e f =
-    let b = both (eqb start 0) (eqb depth 0) (rw (eq-eqb v 4 f) at e) in
+    let b = and_parts (eqb start 0) (eqb depth 0) (rw (eq-eqb v 4 f) at e) in
     (eqb-true start 0 b.0, eqb-true depth 0 b.1)
 
 numbers : (h : Handle) → numbers_known h ≡ true → (version_known h.version ≡ true) × (1 ≤ h.nodes) × (h.nodes ≤ 2 ^ 32 - 1) × Sized h.size
 numbers h e =
-    let a = both (version_known h.version && leb 1 h.nodes && leb h.nodes (2 ^ 32 - 1)) (size_known h.size) e in
-    let b = both (version_known h.version && leb 1 h.nodes) (leb h.nodes (2 ^ 32 - 1)) a.0 in
-    let c = both (version_known h.version) (leb 1 h.nodes) b.0 in
+    let a = and_parts (version_known h.version && leb 1 h.nodes && leb h.nodes (2 ^ 32 - 1)) (size_known h.size) e in
+    let b = and_parts (version_known h.version && leb 1 h.nodes) (leb h.nodes (2 ^ 32 - 1)) a.0 in
+    let c = and_parts (version_known h.version) (leb 1 h.nodes) b.0 in
     (c.0, leb-true _ _ c.1, leb-true _ _ b.1, sized h.size a.1)
 
 pub fit : (h : Handle) (n : ℕ) → fits_of h n ≡ true → Fit h n
 unfolding fits_of
 fit h n e =
-    let a = both (leb n image_bound && numbers_known h && sections_fit h n) (ipv4_fits h) e in
-    let b = both (leb n image_bound && numbers_known h) (sections_fit h n) a.0 in
-    let c = both (leb n image_bound) (numbers_known h) b.0 in
+    let a = and_parts (leb n image_bound && numbers_known h && sections_fit h n) (ipv4_fits h) e in
+    let b = and_parts (leb n image_bound && numbers_known h) (sections_fit h n) a.0 in
+    let c = and_parts (leb n image_bound) (numbers_known h) b.0 in
     let k = numbers h c.1 in
-    let s = both (eqb h.base (data_start h.nodes h.size) && leb (h.base + 14) h.meta) (leb h.meta n) b.1 in
-    let t = both (eqb h.base (data_start h.nodes h.size)) (leb (h.base + 14) h.meta) s.0 in
-    let i = both (leb h.depth4 96 && leb h.start4 (2 ^ 32 - 1)) (not (eqb h.version 4) || (eqb h.start4 0 && eqb h.depth4 0)) a.1 in
-    let j = both (leb h.depth4 96) (leb h.start4 (2 ^ 32 - 1)) i.0 in
+    let s = and_parts (eqb h.base (data_start h.nodes h.size) && leb (h.base + 14) h.meta) (leb h.meta n) b.1 in
+    let t = and_parts (eqb h.base (data_start h.nodes h.size)) (leb (h.base + 14) h.meta) s.0 in
+    let i = and_parts (leb h.depth4 96 && leb h.start4 (2 ^ 32 - 1)) (not (eqb h.version 4) || (eqb h.start4 0 && eqb h.depth4 0)) a.1 in
+    let j = and_parts (leb h.depth4 96) (leb h.start4 (2 ^ 32 - 1)) i.0 in
     record {
       short = leb-true _ _ c.0;
-      versioned = ⊎_elim (λ p. inl (eqb-true _ _ p)) (λ p. inr (eqb-true _ _ p)) (either (eqb h.version 4) (eqb h.version 6) k.0);
+      versioned = ⊎_elim (λ p. inl (eqb-true _ _ p)) (λ p. inr (eqb-true _ _ p)) (or_cases (eqb h.version 4) (eqb h.version 6) k.0);
       some = k.1;
       few = k.2;
       sizes = k.3;
@@ -117,10 +109,6 @@ pub size_le : {size : ℕ} → Sized size → size ≤ 32
 size_le (inl e) = omega arith
 size_le (inr (inl e)) = omega arith
 size_le (inr (inr e)) = omega arith
-
--- the tree's bytes, computed in 64 bits
-pub tree_fits : (h : Handle) → numbers_known h ≡ true → h.nodes * h.size ≤ (2 ^ 32 - 1) * 32
-tree_fits h e = let k = numbers h e in mul-le-mul k.2 (size_le k.3)
 
 start_exact : (nodes size : ℕ) → Sized size → data_start nodes size ≡ nodes * (size / 4) + 16
 start_exact nodes size (inl e) = rw e (omega arith)

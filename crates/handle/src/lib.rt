@@ -1,5 +1,4 @@
-// The numbers of an opened image, and when they fit an image. Chains of tests nest to the right, so that each way out of
-// one is a return of its own and its proof a line.
+// The numbers of an opened image, and when they fit an image.
 #![tactic(auto)]
 
 ghost use Rattle.std.specs.Prelude.{◌≡◌, true};
@@ -24,38 +23,38 @@ pub struct Handle {
 pub fn version_known(version: u64) -> bool
     ensures { result ≡ version_known version }
 {
-    version == 4 || version == 6
+    matches!(version, 4 | 6)
 }
 
 pub fn size_known(size: u64) -> bool
     ensures { result ≡ size_known size }
 {
-    size == 24 || (size == 28 || size == 32)
+    matches!(size, 24 | 28 | 32)
 }
 
 fn numbers_known(h: Handle) -> bool
     ensures { result ≡ numbers_known h }
 {
-    version_known(h.version) && (1 <= h.nodes && (h.nodes <= 4294967295 && size_known(h.size)))
+    version_known(h.version) && 1 <= h.nodes && h.nodes <= 4294967295 && size_known(h.size)
 }
 
 fn sections_fit(h: Handle, n: u64) -> bool
     requires { numbers_known h ≡ true }
     ensures { result ≡ sections_fit h n }
 {
-    h.base == h.nodes * h.size / 4 + 16 && (h.base + 14 <= h.meta && h.meta <= n)
+    h.base == h.nodes * h.size / 4 + 16 && h.base + 14 <= h.meta && h.meta <= n
 }
 
 fn ipv4_fits(h: Handle) -> bool
     ensures { result ≡ ipv4_fits h }
 {
-    h.depth4 <= 96
-        && (h.start4 <= 4294967295 && (h.version != 4 || (h.start4 == 0 && h.depth4 == 0)))
+    h.depth4 <= 96 && h.start4 <= 4294967295 && (h.version != 4 || (h.start4 == 0 && h.depth4 == 0))
 }
 
 // Whether the handle fits an image of n bytes.
+#[tactic(auto, unfolding(crate::specs::Handle::fits_of))]
 pub fn fits(h: Handle, n: u64) -> bool
     ensures { result ≡ fits_of h n }
 {
-    n <= IMAGE_BOUND && (numbers_known(h) && (sections_fit(h, n) && ipv4_fits(h)))
+    n <= IMAGE_BOUND && numbers_known(h) && sections_fit(h, n) && ipv4_fits(h)
 }
