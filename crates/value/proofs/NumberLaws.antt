@@ -1,13 +1,14 @@
 -- Laws of signed numbers and of floats.
-use Prim.Native.Nat.{ℕ, ◌-◌, ◌*◌, ◌%◌, ◌≤◌, ◌<◌}
+use Prim.Native.Nat.{ℕ, ◌*◌, ◌%◌, ◌^◌, ◌≤◌, ◌<◌}
 use mathlib.Core.Path.{◌≡◌, refl, ap, ◌∙◌}
-use mathlib.Core.Bool.{true, false}
+use mathlib.Core.Bool.{Bool, true, false}
 use native.Mathlib.Omega.{arith}
-use borrow.Author.Tests.{le-ltb, lt-ltb}
+use borrow.Author.Tests.{le-ltb, lt-ltb, ltb-false}
+use lib.Dec.{ltb}
 use lib.Ieee
 use lib.Ieee.{Format, nan_bits, ones, hid, top, is_nan, nan, inf, fin}
 use lib.Ieee.Bits.{nan_bits_above}
-use lib.IntN.{negsuc, ◌+ℤ◌}
+use lib.IntN.{negsuc}
 use mir.Syntax.{w32}
 use mir.Val.{to_z}
 use Rattle.value.specs.Numbers.{signed32}
@@ -27,8 +28,9 @@ nan_only (inf s) e = cc
 nan_only (fin s m x) e = cc
 
 -- the upper half of 32 bits is the numbers below zero
-pub sum32 : (v : ℕ) → 2147483648 ≤ v → v < 4294967296 → to_z w32 (v - 2147483648) +ℤ negsuc 2147483647 ≡ negsuc (4294967295 - v)
-sum32 v l h = simp (lt-ltb (v - 2147483648) 2147483648 (omega arith)) (ap negsuc (omega arith))
-
-pub neg32 : (v : ℕ) → 2147483648 ≤ v → v < 4294967296 → signed32 v ≡ negsuc (4294967295 - v)
-neg32 v l h = simp (le-ltb v 2147483648 l, lt-ltb v 4294967296 h) (ap negsuc (omega arith))
+pub signed_word : (v : ℕ) → v < 2 ^ 32 → to_z w32 v ≡ signed32 v
+signed_word v h = go (ltb v 2147483648) refl
+  where
+    go : (b : Bool) → ltb v 2147483648 ≡ b → to_z w32 v ≡ signed32 v
+    go true e = rw e
+    go false e = let l : 2147483648 ≤ v = ltb-false v 2147483648 e in simp (e, lt-ltb v 4294967296 (omega arith)) (ap negsuc (omega arith))

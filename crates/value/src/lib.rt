@@ -3,19 +3,19 @@
 
 ghost use Rattle.std.specs.Prelude.{◌≡◌, ◌+◌, ◌≤◌, length};
 ghost use Rattle.stored.specs.Stored.{Lies};
-ghost use Rattle.value.specs.Numbers.{signed32, double_of, float_of, wide_at};
-ghost use Rattle.value.specs.Value.{if_within, text_at, value_of, read_at};
-ghost use Rattle.value.specs.Parts.{size_of, is_part, part_at, spanned};
+ghost use Rattle.value.specs.Numbers.{double_of, float_of, wide_at};
+ghost use Rattle.value.specs.Value.{text_at, value_of, read_at};
+ghost use Rattle.value.specs.Parts.{size_of, part_at, parts};
 ghost use Rattle.value.specs.Empty.{empty_of, empty_at};
 
-use charge::{Charge, Charged, count_payload, reserve_values};
-use control::{Head, Kind, TYPE_ARRAY, TYPE_MAP, behind, is_type};
+use charge::{Charge, count_payload, reserve_values};
+use control::{Head, Kind, behind};
 use number::be;
-use refusal::MALFORMED;
+use refusal::Refusal;
 use stored::{Layout, resolved};
 use text::utf8;
 
-// A value as it is read, or the number of the refusal. A double and a float come with their exact bits.
+// A value as it is read. A double and a float come with their exact bits.
 #[derive(Clone, Copy)]
 pub enum Value {
     Map(usize),
@@ -30,25 +30,19 @@ pub enum Value {
     Boolean(bool),
     Double(f64, u64),
     Float(f32, u32),
-    Refused(u8),
 }
 
-fn to_signed(v: u32) -> i32
-    ensures { result ≡ signed32 v }
-{
-    if v < 2147483648 {
-        v as i32
-    } else {
-        ((v - 2147483648) as i32) + (-2147483648)
-    }
-}
+// The bits of an infinity; with the sign dropped, a NaN's are above them.
+const INFINITE_DOUBLE: u64 = 0x7ff0_0000_0000_0000;
+
+const INFINITE_FLOAT: u32 = 0x7f80_0000;
 
 // `from_bits` has no meaning at a NaN's bits: there the language's one NaN stands beside them.
 fn double(bits: u64) -> Value
     ensures { result ≡ double_of bits }
 {
-    if bits % 9223372036854775808 > 9218868437227405312 {
-        Value::Double(0.0 / 0.0, bits)
+    if bits % 0x8000_0000_0000_0000 > INFINITE_DOUBLE {
+        Value::Double(f64::NAN, bits)
     } else {
         Value::Double(f64::from_bits(bits), bits)
     }
@@ -57,8 +51,8 @@ fn double(bits: u64) -> Value
 fn float(bits: u32) -> Value
     ensures { result ≡ float_of bits }
 {
-    if bits % 2147483648 > 2139095040 {
-        Value::Float(0.0 / 0.0, bits)
+    if bits % 0x8000_0000 > INFINITE_FLOAT {
+        Value::Float(f32::NAN, bits)
     } else {
         Value::Float(f32::from_bits(bits), bits)
     }
@@ -75,162 +69,106 @@ fn decode_uint128(s: &[u8], size: usize, payload: usize) -> Value
     }
 }
 
-fn decode_string(s: &[u8], size: usize, payload: usize) -> Value
+fn decode_string(s: &[u8], size: usize, payload: usize) -> Result<Value, Refusal>
     requires { payload + size ≤ length s.now }
     ensures { result ≡ text_at s.now payload size }
 {
     if utf8(&s[payload..payload + size]) {
-        Value::Text(size)
+        Ok(Value::Text(size))
     } else {
-        Value::Refused(MALFORMED)
+        Err(Refusal::Malformed)
     }
 }
 
-fn if_within(c: Charged, v: Value) -> Value
-    ensures { result ≡ if_within c v }
+fn value_of(s: &[u8], layout: Layout, c: Charge) -> Result<Value, Refusal>
+    requires { Lies (length s.now) layout.kind layout.size layout.payload }
+    ensures { result ≡ value_of s.now layout.kind layout.size layout.payload c }
 {
-    match c {
-        Charged::Within(_) => v,
-        Charged::Over => Value::Refused(MALFORMED),
-    }
-}
-
-fn value_of(s: &[u8], kind: Kind, size: usize, payload: usize, c: Charge) -> Value
-    requires { Lies (length s.now) kind size payload }
-    ensures { result ≡ value_of s.now kind size payload c }
-{
+    let Layout {
+        kind,
+        size,
+        payload,
+        next: _,
+    } = layout;
     match kind {
-        Kind::Pointer => Value::Refused(MALFORMED),
-        Kind::Text => if_within(count_payload(c, size), decode_string(s, size, payload)),
-        Kind::Double => double(be(s, payload, 8)),
-        Kind::Bytes => if_within(count_payload(c, size), Value::Bytes(size)),
-        Kind::U16 => Value::U16(be(s, payload, size) as u16),
-        Kind::U32 => Value::U32(be(s, payload, size) as u32),
-        Kind::Map => if_within(reserve_values(c, size * 2), Value::Map(size)),
-        Kind::I32 => Value::I32(to_signed(be(s, payload, size) as u32)),
-        Kind::U64 => Value::U64(be(s, payload, size)),
-        Kind::U128 => decode_uint128(s, size, payload),
-        Kind::Array => if_within(reserve_values(c, size), Value::Array(size)),
-        Kind::Boolean => Value::Boolean(size == 1),
-        Kind::Float => float(be(s, payload, 4) as u32),
-        Kind::Unknown => Value::Refused(MALFORMED),
+        Kind::Pointer => Err(Refusal::Malformed),
+        Kind::Text => {
+            count_payload(c, size).ok_or(Refusal::Malformed)?;
+            decode_string(s, size, payload)
+        }
+        Kind::Double => Ok(double(be(s, payload, 8))),
+        Kind::Bytes => {
+            count_payload(c, size).ok_or(Refusal::Malformed)?;
+            Ok(Value::Bytes(size))
+        }
+        Kind::U16 => Ok(Value::U16(be(s, payload, size) as u16)),
+        Kind::U32 => Ok(Value::U32(be(s, payload, size) as u32)),
+        Kind::Map => {
+            reserve_values(c, size * 2).ok_or(Refusal::Malformed)?;
+            Ok(Value::Map(size))
+        }
+        Kind::I32 => Ok(Value::I32((be(s, payload, size) as u32).cast_signed())),
+        Kind::U64 => Ok(Value::U64(be(s, payload, size))),
+        Kind::U128 => Ok(decode_uint128(s, size, payload)),
+        Kind::Array => {
+            reserve_values(c, size).ok_or(Refusal::Malformed)?;
+            Ok(Value::Array(size))
+        }
+        Kind::Boolean => Ok(Value::Boolean(size == 1)),
+        Kind::Float => Ok(float(be(s, payload, 4) as u32)),
+        Kind::Unknown => Err(Refusal::Malformed),
     }
 }
 
 // The value that a place leads to, behind at most one pointer.
-pub fn read(s: &[u8], at: usize, c: Charge) -> Value
+#[tactic(auto, unfolding(crate::specs::Value::read_at))]
+pub fn read(s: &[u8], at: usize, c: Charge) -> Result<Value, Refusal>
     ensures { result ≡ read_at s.now at c }
 {
-    match resolved(s, at) {
-        Layout::At {
-            kind,
-            size,
-            payload,
-            next: _,
-        } => value_of(s, kind, size, payload, c),
-        Layout::Bad => Value::Refused(MALFORMED),
-    }
+    let layout = resolved(s, at).ok_or(Refusal::Malformed)?;
+    value_of(s, layout, c)
 }
 
-// How many bytes a text has, or a value of bytes: nothing for another value.
-#[derive(Clone, Copy)]
-pub enum Extent {
-    Of(usize),
-    Nothing,
-}
-
-pub fn payload_size(v: Value, bytes: bool) -> Extent
+// How many bytes a text has, or a value of bytes.
+pub fn payload_size(v: Value, bytes: bool) -> Option<usize>
     ensures { result ≡ size_of bytes v }
 {
     match v {
-        Value::Map(_) => Extent::Nothing,
-        Value::Array(_) => Extent::Nothing,
-        Value::Text(n) => {
-            if bytes {
-                Extent::Nothing
-            } else {
-                Extent::Of(n)
-            }
-        }
-        Value::Bytes(n) => {
-            if bytes {
-                Extent::Of(n)
-            } else {
-                Extent::Nothing
-            }
-        }
-        Value::U16(_) => Extent::Nothing,
-        Value::U32(_) => Extent::Nothing,
-        Value::U64(_) => Extent::Nothing,
-        Value::U128(_, _) => Extent::Nothing,
-        Value::I32(_) => Extent::Nothing,
-        Value::Boolean(_) => Extent::Nothing,
-        Value::Double(_, _) => Extent::Nothing,
-        Value::Float(_, _) => Extent::Nothing,
-        Value::Refused(_) => Extent::Nothing,
+        Value::Text(n) if !bytes => Some(n),
+        Value::Bytes(n) if bytes => Some(n),
+        _ => None,
     }
 }
 
-// Whether reading finds a text, or a value of bytes.
-pub fn has_part(s: &[u8], at: usize, c: Charge, bytes: bool) -> bool
-    ensures { result ≡ is_part (size_of bytes (read_at s.now at c)) }
+// Where the bytes of a text lie, or of a value of bytes, and how many: none where reading refuses or gives another kind.
+#[tactic(auto, unfolding(crate::specs::Parts::part_at, crate::specs::Value::read_at))]
+pub fn place(s: &[u8], at: usize, c: Charge, bytes: bool) -> Option<(usize, usize)>
+    ensures { result ≡ part_at s.now at c bytes }
 {
-    match payload_size(read(s, at, c), bytes) {
-        Extent::Of(_) => true,
-        Extent::Nothing => false,
-    }
+    let layout = resolved(s, at)?;
+    let size = payload_size(value_of(s, layout, c).ok()?, bytes)?;
+    Some((layout.payload, size))
 }
 
-// The bytes of a text, or of a value of bytes, where they lie: the section's first 0 bytes where reading refuses or gives another kind.
-pub fn part<'a>(s: &'a [u8], at: usize, c: Charge, bytes: bool) -> &'a [u8]
-    ensures result_value { result.now ≡ spanned s.now (part_at s.now at c bytes) }
-    ensures ref_ptr_value { result.ref_ptr ≡ (s.entry.ref_ptr.0, s.entry.ref_ptr.1 + (part_at s.now at c bytes).0) }
+// These bytes, as a part of the section.
+pub fn part<'a>(s: &'a [u8], at: usize, c: Charge, bytes: bool) -> Option<&'a [u8]>
+    ensures { result ≡ parts s.entry (part_at s.now at c bytes) }
 {
-    match resolved(s, at) {
-        Layout::At {
-            kind,
-            size,
-            payload,
-            next: _,
-        } => match payload_size(value_of(s, kind, size, payload, c), bytes) {
-            Extent::Of(n) => &s[payload..payload + n],
-            Extent::Nothing => &s[..0],
-        },
-        Layout::Bad => &s[..0],
-    }
+    let (from, size) = place(s, at, c, bytes)?;
+    Some(&s[from..from + size])
+}
+
+fn is_empty(head: Head) -> bool
+    ensures { result ≡ empty_of head.kind head.size }
+{
+    head.size == 0 && matches!(head.kind, Kind::Map | Kind::Array)
 }
 
 // Whether a map or an array without children stands at a place; the header alone decides.
-#[derive(Clone, Copy)]
-pub enum Emptiness {
-    Empty,
-    Holds,
-    Malformed,
-}
-
-fn is_empty(kind: Kind, size: usize) -> Emptiness
-    ensures { result ≡ empty_of kind size }
-{
-    if size == 0 {
-        if is_type(kind, TYPE_MAP) {
-            return Emptiness::Empty;
-        }
-        if is_type(kind, TYPE_ARRAY) {
-            return Emptiness::Empty;
-        }
-    }
-    Emptiness::Holds
-}
-
-pub fn is_empty_value_at(s: &[u8], at: usize) -> Emptiness
+#[tactic(auto, unfolding(crate::specs::Empty::empty_at))]
+pub fn is_empty_value_at(s: &[u8], at: usize) -> Result<bool, Refusal>
     ensures { result ≡ empty_at s.now at }
 {
-    match behind(s, at) {
-        Head::At {
-            kind,
-            size,
-            payload: _,
-        } => is_empty(kind, size),
-        Head::Bad => Emptiness::Malformed,
-    }
+    let head = behind(s, at).ok_or(Refusal::Malformed)?;
+    Ok(is_empty(head))
 }
