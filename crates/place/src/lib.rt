@@ -9,11 +9,10 @@ ghost use Rattle.place.specs.Turns.{child_key, child_of, network_of, unless_empt
 
 use handle::Handle;
 use number::{Key, masked, set_bit};
-use refusal::{MALFORMED, RECORD, TOO_DEEP};
-use tree::Answer;
+use refusal::Refusal;
 use tree::lookup::answer;
 use tree::record::read_node;
-use value::{Emptiness, is_empty_value_at};
+use value::is_empty_value_at;
 
 // A place that waits: a record's value, a key and a length. The key is the range's with the bits set that led here.
 #[derive(Clone, Copy)]
@@ -38,19 +37,13 @@ pub enum NetworkKind {
     V4InV6Subtree,
 }
 
-// Where a network's data stand in the data section.
-#[derive(Clone, Copy)]
-pub enum Offset {
-    At(u64),
-    None,
-}
-
+// A network, and where its data stand in the data section, if it has any.
 #[derive(Clone, Copy)]
 pub struct Network {
     pub key: Key,
     pub len: u64,
     pub kind: NetworkKind,
-    pub offset: Offset,
+    pub offset: Option<u64>,
 }
 
 // What a walk's call hands out. 11, 12 and 14 fail one place, which is gone, and the walk goes on after it; 9 and 13 refuse
@@ -58,8 +51,8 @@ pub struct Network {
 #[derive(Clone, Copy)]
 pub enum Outcome {
     Given(Network),
-    Failed(u8),
-    Refused(u8),
+    Failed(Refusal),
+    Refused(Refusal),
     Paused,
     End,
 }
@@ -160,13 +153,13 @@ pub fn child(s: &[u8], size: u64, width: u64, p: Place, bit: u64) -> Place
     let key = child_key(old, width, p.len, bit);
     let value = read_node(s, size, p.value, bit);
     Place {
-        value: value,
-        key: key,
+        value,
+        key,
         len: p.len + 1,
     }
 }
 
-fn network_of(h: Handle, width: u64, p: Place, offset: Offset) -> Network
+fn network_of(h: Handle, width: u64, p: Place, offset: Option<u64>) -> Network
     requires { (p.len ≤ width) × (width ≤ 128) }
     ensures { result ≡ network_of h width p offset }
 {
@@ -174,20 +167,20 @@ fn network_of(h: Handle, width: u64, p: Place, offset: Offset) -> Network
     let key = masked(long, width, p.len);
     let kind = network_kind(h, width, p);
     Network {
-        key: key,
+        key,
         len: p.len,
-        kind: kind,
-        offset: offset,
+        kind,
+        offset,
     }
 }
 
-fn unless_empty(empty: Emptiness, network: Network) -> Turn
+fn unless_empty(empty: Result<bool, Refusal>, network: Network) -> Turn
     ensures { result ≡ unless_empty empty network }
 {
     match empty {
-        Emptiness::Empty => Turn::Passed,
-        Emptiness::Holds => Turn::Out(Outcome::Given(network)),
-        Emptiness::Malformed => Turn::Out(Outcome::Failed(MALFORMED)),
+        Ok(true) => Turn::Passed,
+        Ok(false) => Turn::Out(Outcome::Given(network)),
+        Err(refusal) => Turn::Out(Outcome::Failed(refusal)),
     }
 }
 
@@ -209,22 +202,26 @@ pub fn visit(section: &[u8], h: Handle, options: Options, width: u64, p: Place) 
         if p.len < width {
             return Turn::Opened;
         }
-        return Turn::Out(Outcome::Failed(TOO_DEEP));
+        return Turn::Out(Outcome::Failed(Refusal::TooDeep));
     }
-    match answer(h.nodes, section.len() as u64, p.value, p.len) {
-        Answer::Found { offset, len: _ } => {
-            let found = network_of(h, width, p, Offset::At(offset));
+    let Some(found) = answer(h.nodes, section.len() as u64, p.value, p.len) else {
+        return Turn::Out(Outcome::Failed(Refusal::Record));
+    };
+    match found.offset {
+        Some(offset) => {
+            let network = network_of(h, width, p, Some(offset));
             if options.skipempty {
-                return unless_empty(is_empty_value_at(section, offset as usize), found);
+                unless_empty(is_empty_value_at(section, offset as usize), network)
+            } else {
+                Turn::Out(Outcome::Given(network))
             }
-            Turn::Out(Outcome::Given(found))
         }
-        Answer::NotFound { len: _ } => {
+        None => {
             if options.dataless {
-                return Turn::Out(Outcome::Given(network_of(h, width, p, Offset::None)));
+                Turn::Out(Outcome::Given(network_of(h, width, p, None)))
+            } else {
+                Turn::Passed
             }
-            Turn::Passed
         }
-        Answer::Invalid => Turn::Out(Outcome::Failed(RECORD)),
     }
 }

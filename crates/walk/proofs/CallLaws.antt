@@ -8,7 +8,7 @@ use native.Mathlib.Omega.{arith}
 use lib.ListN.{set}
 use lib.Dec.{ltb, eqb}
 use borrow.Author.Tests.{eq-eqb, ne_eqb, lt-ltb, le-ltb, eqb-true, eqb-false, ltb-false}
-use Rattle.refusal.specs.Refusals as refusal
+use Rattle.refusal.specs.declared.Refusal.TheVariants as refusal
 use Rattle.handle.specs.declared.Handle.{Handle}
 use Rattle.place.specs.Shape.{frame_out, key_out, newest_out}
 use Rattle.place.specs.Turns.{child_of}
@@ -87,7 +87,7 @@ module _ (s : List ℕ) (h : Handle) (t : ℕ) (w : Walk) where
   goes_end (suc n) e = simp (eq-eqb _ _ e)
 
   module _ (live : w.count ≡ 0 → ⊥) where
-    pub goes_out : (n : ℕ) → out_of_shape h.nodes w ≡ true → goes s h n t w ≡ called (Refused refusal.out_of_shape) t w
+    pub goes_out : (n : ℕ) → out_of_shape h.nodes w ≡ true → goes s h n t w ≡ called (Refused refusal.OutOfShape) t w
     unfolding goes
     goes_out zero e = simp (ne_eqb _ _ live, e)
     goes_out (suc n) e = simp (ne_eqb _ _ live, e)
@@ -124,7 +124,7 @@ module _ (s : List ℕ) (h : Handle) (R : ℕ → ℕ → Walk → Called → Ty
 
   pub record Cases : Type 0 where
     pub end : (n t : ℕ) (w : Walk) → w.count ≡ 0 → R n t w (called End t w)
-    pub out : (n t : ℕ) (w : Walk) → Live w → out_of_shape h.nodes w ≡ true → R n t w (called (Refused refusal.out_of_shape) t w)
+    pub out : (n t : ℕ) (w : Walk) → Live w → out_of_shape h.nodes w ≡ true → R n t w (called (Refused refusal.OutOfShape) t w)
     pub paused : (t : ℕ) (w : Walk) → Ready w → R 0 t w (called Paused t w)
     pub handed : (n t : ℕ) (w : Walk) (a : Outcome) → Ready w → turn_at s h w ≡ Out a → R (suc n) t w (called a (t + 1) (taken w))
     pub passed : (n t : ℕ) (w : Walk) (c : Called) → Ready w → turn_at s h w ≡ Passed → R n (t + 1) (taken w) c → R (suc n) t w c

@@ -13,7 +13,7 @@ use Rattle.place.specs.declared.Outcome.{Outcome}
 use Rattle.place.specs.declared.Outcome.TheVariants as outcome
 use Rattle.place.specs.declared.Turn.{Turn}
 use Rattle.place.specs.declared.Turn.TheVariants.{Passed, Out, Opened}
-use Rattle.refusal.specs.Refusals as refusal
+use Rattle.refusal.specs.declared.Refusal.TheVariants as refusal
 use Rattle.walk.specs.declared.Walk.{Walk}
 use Rattle.walk.specs.declared.Called.{Called}
 use Rattle.walk.specs.declared.rows.Halt.{Halt}
@@ -30,8 +30,8 @@ gate_later k nodes t w c = by (eqb w.count 0) (out_of_shape nodes w)
   where
     by :
         (a b : Bool)
-        → later k (cond a (called outcome.End t w) (cond b (called (outcome.Refused refusal.out_of_shape) t w) c))
-        ≡ cond a (called outcome.End (k + t) w) (cond b (called (outcome.Refused refusal.out_of_shape) (k + t) w) (later k c))
+        → later k (cond a (called outcome.End t w) (cond b (called (outcome.Refused refusal.OutOfShape) t w) c))
+        ≡ cond a (called outcome.End (k + t) w) (cond b (called (outcome.Refused refusal.OutOfShape) (k + t) w) (later k c))
     by true b = refl
     by false true = refl
     by false false = refl
@@ -170,6 +170,6 @@ module _ (s : List ℕ) (h : Handle) where
 
   pub rows_refused :
       fits_of h (length s) ≡ false → (w : Walk) (b : ℕ) (out : List ℕ)
-      → rows_of s h w b out ≡ poured (record { rows = 0; taken = 0; halt = halt.Refused refusal.handle; walk = w }) out
+      → rows_of s h w b out ≡ poured (record { rows = 0; taken = 0; halt = halt.Refused refusal.Handle; walk = w }) out
   unfolding rows_of
-  rows_refused bad w b out = simp bad (going_end 0 0 (halt.Refused refusal.handle) w out)
+  rows_refused bad w b out = simp bad (going_end 0 0 (halt.Refused refusal.Handle) w out)

@@ -1,6 +1,6 @@
 -- A walk's call, by its budget.
 use Rattle.std.specs.Prelude.{ℕ, zero, suc, ◌+◌, ◌-◌, Bool, cond, ◌&&◌, ◌||◌, List, length, take, drop, eqb, ltb}
-use Rattle.refusal.specs.Refusals as refusal
+use Rattle.refusal.specs.declared.Refusal.TheVariants as refusal
 use Rattle.handle.specs.declared.Handle.{Handle}
 use Rattle.handle.specs.Handle.{fits_of}
 use Rattle.place.specs.Shape.{frame_out, newest_out}
@@ -43,7 +43,7 @@ called a t w = record { answer = a; taken = t; walk = w }
 -- none waiting, End; out of shape, 13; else what else says
 abbrev pub gate : ℕ → ℕ → Walk → Called → Called
 gate nodes t w other =
-    cond (eqb w.count 0) (called End t w) (cond (out_of_shape nodes w) (called (Refused refusal.out_of_shape) t w) other)
+    cond (eqb w.count 0) (called End t w) (cond (out_of_shape nodes w) (called (Refused refusal.OutOfShape) t w) other)
 
 -- what a taken place hands out ends the call
 abbrev pub ends : Turn → (Outcome → Called) → Called → Called
@@ -60,4 +60,4 @@ goes s h (suc n) t w =
 
 -- 9 first; it leaves the walk as it was
 unfoldable pub next_of : List ℕ → Handle → Walk → ℕ → Called
-next_of s h w b = cond (fits_of h (length s)) (goes s h b 0 w) (called (Refused refusal.handle) 0 w)
+next_of s h w b = cond (fits_of h (length s)) (goes s h b 0 w) (called (Refused refusal.Handle) 0 w)

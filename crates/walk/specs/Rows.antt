@@ -1,13 +1,11 @@
 -- Many networks in one call: single calls one after the other, each network a row of a lent buffer.
-use Rattle.std.specs.Prelude.{ℕ, zero, suc, ◌+◌, ◌-◌, ◌*◌, ◌/◌, ◌^◌, cond, List, [], ◌∷◌, length, set}
-use Rattle.refusal.specs.Refusals as refusal
+use Rattle.std.specs.Prelude.{ℕ, zero, suc, ◌+◌, ◌-◌, ◌*◌, ◌/◌, ◌^◌, cond, List, [], ◌∷◌, length, set, Option, Some, None}
+use Rattle.refusal.specs.declared.Refusal.TheVariants as refusal
 use Rattle.handle.specs.declared.Handle.{Handle}
 use Rattle.handle.specs.Handle.{fits_of}
 use Rattle.place.specs.declared.Network.{Network}
 use Rattle.place.specs.declared.NetworkKind.{NetworkKind}
 use Rattle.place.specs.declared.NetworkKind.TheVariants.{V4, V6, V4InV6Subtree}
-use Rattle.place.specs.declared.Offset.{Offset}
-use Rattle.place.specs.declared.Offset.TheVariants.{At, None}
 use Rattle.place.specs.declared.Outcome.{Outcome}
 use Rattle.place.specs.declared.Outcome.TheVariants as outcome
 use Rattle.walk.specs.declared.Walk.{Walk}
@@ -25,8 +23,8 @@ kind_number V4InV6Subtree = 3
 abbrev pub no_data : ℕ
 no_data = 2 ^ 64 - 1
 
-abbrev pub offset_word : Offset → ℕ
-offset_word (At place) = place
+abbrev pub offset_word : Option ℕ → ℕ
+offset_word (Some place) = place
 offset_word None = no_data
 
 abbrev pub put : List ℕ → ℕ → Network → List ℕ
@@ -52,8 +50,8 @@ ended t e w = record { networks = []; taken = t; halt = e; walk = w }
 -- a network is the first of those that the rest hands out; any other answer ends the run
 abbrev pub on_answer : Outcome → ℕ → Walk → Run → Run
 on_answer (outcome.Given n) t w rest = record { networks = n ∷ rest.networks; taken = t + rest.taken; halt = rest.halt; walk = rest.walk }
-on_answer (outcome.Failed number) t w rest = ended t (halt.Failed number) w
-on_answer (outcome.Refused number) t w rest = ended t (halt.Refused number) w
+on_answer (outcome.Failed refused) t w rest = ended t (halt.Failed refused) w
+on_answer (outcome.Refused refused) t w rest = ended t (halt.Refused refused) w
 on_answer outcome.Paused t w rest = ended t halt.Paused w
 on_answer outcome.End t w rest = ended t halt.End w
 
@@ -80,4 +78,4 @@ pouring row t r out =
 -- 9 first, also where there is no room for a row
 unfoldable pub rows_of : List ℕ → Handle → Walk → ℕ → List ℕ → Poured
 rows_of s h w b out =
-    pouring 0 0 (cond (fits_of h (length s)) (run_of s h (length out / 5) b w) (ended 0 (halt.Refused refusal.handle) w)) out
+    pouring 0 0 (cond (fits_of h (length s)) (run_of s h (length out / 5) b w) (ended 0 (halt.Refused refusal.Handle) w)) out

@@ -1,6 +1,7 @@
 -- The start of a walk: a range of addresses, and options.
-use Rattle.std.specs.Prelude.{ℕ, Bool, cond, not, ◌&&◌, List, length, eqb, leb}
-use Rattle.refusal.specs.Refusals.{handle, ipv6_in_ipv4, prefix_length}
+use Rattle.std.specs.Prelude.{ℕ, Bool, cond, not, ◌&&◌, List, length, eqb, leb, Ok, Err}
+use Rattle.refusal.specs.declared.Refusal.{Refusal}
+use Rattle.refusal.specs.declared.Refusal.TheVariants as refusal
 use Rattle.number.specs.declared.Key.{Key}
 use Rattle.number.specs.Keys.{number_of, key_of, masked_to}
 use Rattle.handle.specs.declared.Handle.{Handle}
@@ -13,7 +14,6 @@ use Rattle.walk.specs.declared.Range.{Range}
 use Rattle.walk.specs.declared.Range.TheVariants.{Ipv4, Ipv6}
 use Rattle.walk.specs.declared.Asked.{Asked}
 use Rattle.walk.specs.declared.First.{First}
-use Rattle.walk.specs.declared.Status.TheVariants.{Begun, Refused}
 use Rattle.walk.specs.declared.Started.{Started}
 use Rattle.walk.specs.Walks.{walk_from, no_walk}
 
@@ -49,17 +49,17 @@ first_of s h a =
     (record { place = record { value = h.start4; key = record { high = 0; low = 0 }; len = h.depth4 }; width = 128 })
     (record { place = record { value = (way_to s h a).node; key = range_key a; len = (way_to s h a).depth }; width = a.width })
 
-abbrev pub refused_start : ℕ → Started
-refused_start n = record { status = Refused n; walk = no_walk }
+abbrev pub refused_start : Refusal → Started
+refused_start e = record { status = Err e; walk = no_walk }
 
 abbrev pub begun_with : First → Options → Started
-begun_with f o = record { status = Begun; walk = walk_from f.place f.width o }
+begun_with f o = record { status = Ok tt; walk = walk_from f.place f.width o }
 
 -- 9, 16, 10 in that order
 unfoldable pub begin_of : List ℕ → Handle → Range → Options → Started
 begin_of s h r o =
     cond (fits_of h (length s))
     (cond (leb (asked_of r).len (asked_of r).width)
-    (cond (is_ipv6_in_ipv4 h (asked_of r).width) (refused_start ipv6_in_ipv4) (begun_with (first_of s h (asked_of r)) o))
-    (refused_start prefix_length))
-    (refused_start handle)
+    (cond (is_ipv6_in_ipv4 h (asked_of r).width) (refused_start refusal.Ipv6InIpv4) (begun_with (first_of s h (asked_of r)) o))
+    (refused_start refusal.PrefixLength))
+    (refused_start refusal.Handle)

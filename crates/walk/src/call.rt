@@ -6,16 +6,16 @@ use crate::start::no_place;
 use crate::{Called, Walk};
 use handle::{Handle, fits};
 use place::{Outcome, Turn, child, frame_out, newest_out, visit};
-use refusal::{HANDLE, OUT_OF_SHAPE};
+use refusal::Refusal;
 
 pub fn next(image: &[u8], h: Handle, walk: Walk, budget: u64) -> Called
     ensures { result ≡ next_of image.now h walk budget }
 {
     if !fits(h, image.len() as u64) {
         return Called {
-            answer: Outcome::Refused(HANDLE),
+            answer: Outcome::Refused(Refusal::Handle),
             taken: 0,
-            walk: walk,
+            walk,
         };
     }
     let base = h.base as usize;
@@ -37,7 +37,7 @@ pub fn next(image: &[u8], h: Handle, walk: Walk, budget: u64) -> Called
         }
         if frame_out(count, width) {
             return Called {
-                answer: Outcome::Refused(OUT_OF_SHAPE),
+                answer: Outcome::Refused(Refusal::OutOfShape),
                 taken: n,
                 walk: w,
             };
@@ -46,7 +46,7 @@ pub fn next(image: &[u8], h: Handle, walk: Walk, budget: u64) -> Called
         let p = w.places[i];
         if newest_out(h.nodes, count, width, p) {
             return Called {
-                answer: Outcome::Refused(OUT_OF_SHAPE),
+                answer: Outcome::Refused(Refusal::OutOfShape),
                 taken: n,
                 walk: w,
             };
@@ -64,7 +64,7 @@ pub fn next(image: &[u8], h: Handle, walk: Walk, budget: u64) -> Called
         match visit(section, h, options, width, p) {
             Turn::Out(answer) => {
                 return Called {
-                    answer: answer,
+                    answer,
                     taken: n,
                     walk: w,
                 };

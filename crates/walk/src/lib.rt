@@ -7,6 +7,7 @@ pub mod start;
 
 use number::Key;
 use place::{Options, Outcome, Place};
+use refusal::Refusal;
 
 // The waiting places, how many they are, the address width, and the options that the walk was begun with.
 #[derive(Drop)]
@@ -39,15 +40,10 @@ pub struct First {
     pub width: u64,
 }
 
-#[derive(Clone, Copy)]
-pub enum Status {
-    Begun,
-    Refused(u8),
-}
-
+// How a start went, and the walk: one with no place waiting where it is refused.
 #[derive(Drop)]
 pub struct Started {
-    pub status: Status,
+    pub status: Result<(), Refusal>,
     pub walk: Walk,
 }
 

@@ -8,10 +8,9 @@ use crate::Walk;
 use crate::start::no_place;
 use handle::{Handle, fits};
 use place::{
-    Network, NetworkKind, Offset, Options, Outcome, Place, Turn, child, frame_out, newest_out,
-    visit,
+    Network, NetworkKind, Options, Outcome, Place, Turn, child, frame_out, newest_out, visit,
 };
-use refusal::{HANDLE, OUT_OF_SHAPE};
+use refusal::Refusal;
 
 // The words of a row: the key's halves, the length, the kind, and the offset.
 pub const ROW_WORDS: usize = 5;
@@ -23,8 +22,8 @@ pub const NO_DATA: u64 = 18446744073709551615;
 #[derive(Clone, Copy)]
 pub enum Halt {
     Full,
-    Failed(u8),
-    Refused(u8),
+    Failed(Refusal),
+    Refused(Refusal),
     Paused,
     End,
 }
@@ -47,13 +46,10 @@ pub fn kind_number(kind: NetworkKind) -> u64
     }
 }
 
-pub fn offset_word(offset: Offset) -> u64
+pub fn offset_word(offset: Option<u64>) -> u64
     ensures { result ≡ offset_word offset }
 {
-    match offset {
-        Offset::At(place) => place,
-        Offset::None => NO_DATA,
-    }
+    offset.unwrap_or(NO_DATA)
 }
 
 fn put_row(out: &mut [u64], row: usize, n: Network)
@@ -98,8 +94,8 @@ pub fn next_rows(image: &[u8], h: Handle, walk: Walk, out: &mut [u64], budget: u
         return Filled {
             rows: 0,
             taken: 0,
-            halt: Halt::Refused(HANDLE),
-            walk: walk,
+            halt: Halt::Refused(Refusal::Handle),
+            walk,
         };
     }
     let base = h.base as usize;
@@ -126,7 +122,7 @@ pub fn next_rows(image: &[u8], h: Handle, walk: Walk, out: &mut [u64], budget: u
             return Filled {
                 rows: row as u64,
                 taken: n,
-                halt: Halt::Refused(OUT_OF_SHAPE),
+                halt: Halt::Refused(Refusal::OutOfShape),
                 walk: w,
             };
         }
@@ -141,7 +137,7 @@ pub fn next_rows(image: &[u8], h: Handle, walk: Walk, out: &mut [u64], budget: u
                 return Filled {
                     rows: row as u64,
                     taken: n,
-                    halt: Halt::Refused(OUT_OF_SHAPE),
+                    halt: Halt::Refused(Refusal::OutOfShape),
                     walk: w,
                 };
             }
@@ -173,19 +169,19 @@ pub fn next_rows(image: &[u8], h: Handle, walk: Walk, out: &mut [u64], budget: u
                             row += 1;
                             continue 'rows;
                         }
-                        Outcome::Failed(number) => {
+                        Outcome::Failed(refusal) => {
                             return Filled {
                                 rows: row as u64,
                                 taken: n,
-                                halt: Halt::Failed(number),
+                                halt: Halt::Failed(refusal),
                                 walk: w,
                             };
                         }
-                        Outcome::Refused(number) => {
+                        Outcome::Refused(refusal) => {
                             return Filled {
                                 rows: row as u64,
                                 taken: n,
-                                halt: Halt::Refused(number),
+                                halt: Halt::Refused(refusal),
                                 walk: w,
                             };
                         }

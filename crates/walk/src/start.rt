@@ -4,11 +4,11 @@ ghost use Rattle.handle.specs.Handle.{fits_of};
 ghost use Rattle.walk.specs.Walks.{none, walk_from};
 ghost use Rattle.walk.specs.Starts.{asked_of, range_key, is_ipv6_in_ipv4, lacks_subtree, start_node, first_of, refused_start, begin_of};
 
-use crate::{Asked, First, Range, Started, Status, Walk};
+use crate::{Asked, First, Range, Started, Walk};
 use handle::{Handle, fits};
 use number::{Key, masked};
 use place::{Options, Place, has_ipv4_subtree};
-use refusal::{HANDLE, IPV6_IN_IPV4, PREFIX_LENGTH};
+use refusal::Refusal;
 use tree::lookup::descend;
 
 fn asked_of(range: Range) -> Asked
@@ -21,12 +21,12 @@ fn asked_of(range: Range) -> Asked
                 low: addr as u64,
             },
             width: 32,
-            len: len,
+            len,
         },
         Range::Ipv6 { addr, len } => Asked {
             key: addr,
             width: 128,
-            len: len,
+            len,
         },
     }
 }
@@ -72,10 +72,10 @@ fn first_of(image: &[u8], h: Handle, asked: Asked) -> First
     First {
         place: Place {
             value: end.node,
-            key: key,
+            key,
             len: end.depth,
         },
-        width: width,
+        width,
     }
 }
 
@@ -96,19 +96,19 @@ fn walk_from(place: Place, width: u64, options: Options) -> Walk
     let mut places = [none; 129];
     places[0] = place;
     Walk {
-        places: places,
+        places,
         count: 1,
-        width: width,
-        options: options,
+        width,
+        options,
     }
 }
 
-fn refused_start(number: u8) -> Started
-    ensures { result ≡ refused_start number }
+fn refused_start(refusal: Refusal) -> Started
+    ensures { result ≡ refused_start refusal }
 {
     let none = no_place();
     Started {
-        status: Status::Refused(number),
+        status: Err(refusal),
         walk: Walk {
             places: [none; 129],
             count: 0,
@@ -126,21 +126,21 @@ pub fn begin(image: &[u8], h: Handle, range: Range, options: Options) -> Started
     ensures { result ≡ begin_of image.now h range options }
 {
     if !fits(h, image.len() as u64) {
-        return refused_start(HANDLE);
+        return refused_start(Refusal::Handle);
     }
     let asked = asked_of(range);
     let width = asked.width;
     if width < asked.len {
-        return refused_start(PREFIX_LENGTH);
+        return refused_start(Refusal::PrefixLength);
     }
     if is_ipv6_in_ipv4(h, width) {
-        return refused_start(IPV6_IN_IPV4);
+        return refused_start(Refusal::Ipv6InIpv4);
     }
     let first = first_of(image, h, asked);
     let place = first.place;
     let walk = walk_from(place, first.width, options);
     Started {
-        status: Status::Begun,
-        walk: walk,
+        status: Ok(()),
+        walk,
     }
 }
