@@ -66,15 +66,12 @@ pub fn load(words: &[u64]) -> Walk
     requires { holds_walk words.now ≡ true }
     ensures { result ≡ walk_of words.now }
 {
-    let none = no_place();
-    let mut places = [none; 129];
-    let mut i: usize = 0;
-    while i < 129 {
-        places[i] = place_at(words, i);
-        i += 1;
+    let mut places = [no_place(); 129];
+    for (i, place) in places.iter_mut().enumerate() {
+        *place = place_at(words, i);
     }
     Walk {
-        places: places,
+        places,
         count: words[516],
         width: words[517],
         options: options_of(words[518]),
@@ -98,14 +95,10 @@ pub fn store(words: &mut [u64], w: Walk)
     requires { 519 ≤ length words.old }
     ensures { words.new ≡ held words.old w }
 {
-    let mut i: usize = 0;
-    while i < 129 {
-        let p = w.places[i];
-        put_place(words, i, p);
-        i += 1;
+    for (i, place) in w.places.iter().enumerate() {
+        put_place(words, i, *place);
     }
-    let options = w.options;
     words[516] = w.count;
     words[517] = w.width;
-    words[518] = options_number(options);
+    words[518] = options_number(w.options);
 }
