@@ -42,6 +42,21 @@ places_more (suc most) n p h =
     let e : most ≡ suc most - 1 = omega arith in
     simp (le-ltb n 10 h) (ap (λ (k : ℕ). suc (places k (n / 10))) e)
 
+ten_pos : (k : ℕ) → 0 < 10 ^ k
+ten_pos zero = omega arith
+ten_pos (suc k) = omega (arith, ten_pos k, pow-succ' 10 k)
+
+-- the logarithm, and one more
+pub places_log : (most k n : ℕ) → 10 ^ k ≤ n → n < 10 * 10 ^ k → k ≤ most → places most n ≡ k + 1
+places_log most zero n a b h = places_last most n b
+places_log zero (suc k) n a b h = absurd (omega arith)
+places_log (suc most) (suc k) n a b h =
+    let p = pow-succ' 10 k in
+    let q = ten_pos k in
+    let e : places most (n / 10) ≡ k + 1 = places_log most k (n / 10) (omega arith) (omega arith) (omega arith) in
+    let m : suc most - 1 ≡ most = omega arith in
+    rw (places_more (suc most) n (omega arith) (omega arith), m, e) (omega arith)
+
 -- the higher digits, then the lower
 pub digits_split : (base high low n : ℕ) → digits base (high + low) n ≡ digits base high (n / base ^ low) ++ digits base low n
 unfolding digits

@@ -2,15 +2,15 @@
 use Prim.Native.Nat.{ℕ, suc, ◌+◌, ◌-◌, ◌*◌, ◌/◌, ◌%◌, ◌^◌, ◌≤◌, ◌<◌}
 use mathlib.Core.Path.{◌≡◌, refl, sym, ap, ◌∙◌, subst}
 use mathlib.Core.Bool.{cond}
-use mathlib.Core.List.{List, [], ◌∷◌, ◌++◌}
+use mathlib.Core.List.{List, [], ◌∷◌, ◌++◌, append_assoc}
 use native.Mathlib.Nat.{add-zero}
-use native.Mathlib.Numerals.{add-one}
 use native.Mathlib.Omega.{arith}
 use borrow.Author.Tests.{eq-eqb, ne_eqb}
 use Rattle.number.specs.declared.Key.{Key}
 use Rattle.number.specs.Keys.{number_of}
-use lib.ListN.{length, get_or, set, drop, length-append, drop_of_length-le}
-use lib.Seq.{sets, set_comm, drop-cons}
+use lib.ListN.{length, set, length-append}
+use lib.Seq.{sets, sets-eq, set_comm, drop-drop}
+use borrow.Rule.Slice.PartMut.{put_mid}
 use Rattle.listing.specs.Digits.{glyph_of, digits, places, decimal}
 use Rattle.listing.specs.Lines.{key_text, Wrote}
 use Rattle.listing.proofs.DigitLaws.{length_digits, digits_none, digits_more, digits_split, digits_low}
@@ -52,16 +52,12 @@ digit_written base count n at l h =
 pub digits_written : (base count n at : ℕ) (l : List ℕ) → count ≤ 0 → l ≡ sets l at (digits base count n)
 digits_written base count n at l h = ap (sets l at) (sym (digits_none base count n h))
 
--- the first byte, then those after it
-pub byte_written : (text l : List ℕ) (at i : ℕ) → i < length text
-    → sets (set l (at + i) (get_or text i 0)) (at + (i + 1)) (drop (i + 1) text) ≡ sets l (at + i) (drop i text)
-byte_written text l at i h =
-    ap (λ (k : ℕ). sets (set l (at + i) (get_or text i 0)) k (drop (i + 1) text)) (omega arith)
-    ∙ ap (λ (k : ℕ). sets (set l (at + i) (get_or text i 0)) (suc (at + i)) (drop k text)) (add-one i)
-    ∙ ap (sets l (at + i)) (sym (drop-cons text i 0 h))
-
-pub text_written : (text l : List ℕ) (at i : ℕ) → length text ≤ i → l ≡ sets l (at + i) (drop i text)
-text_written text l at i h = ap (sets l (at + i)) (sym (drop_of_length-le text h))
+-- a text over the bytes from `at` on
+pub wrote_text : (text s : List ℕ) (at : ℕ) {t : List ℕ} → at + length text ≤ length s
+    → t ≡ text → Wrote (length text) s at text (at + length text) (put_mid at (at + length text - at) s t)
+wrote_text text s at {t = t} h e =
+    let size : at + length text - at ≡ length text = omega arith in
+    record { stops = refl; holds = rw (e, size, drop-drop, ← append_assoc) (sym (sets-eq text s at h)); short = omega arith }
 
 pub wrote_none : (most at : ℕ) (s : List ℕ) → Wrote most s at [] at s
 wrote_none most at s = record { stops = sym (add-zero at); holds = refl; short = omega arith }

@@ -8,8 +8,8 @@ use lib.ListN.{length, take, drop}
 use lib.Seq.{sets-eq}
 use Rattle.place.specs.declared.Network.{Network}
 use Rattle.place.specs.declared.NetworkKind.TheVariants.{V4}
-use Rattle.place.specs.declared.Offset.{Offset}
-use Rattle.place.specs.declared.Offset.TheVariants as offset
+use Rattle.std.specs.Prelude.{Option, Some, None}
+use Rattle.refusal.specs.declared.Refusal.TheVariants as refusal
 use Rattle.place.specs.declared.Outcome.TheVariants.{Given, Failed, End}
 use Rattle.listing.specs.Digits.{digits, places, decimal}
 use Rattle.listing.specs.Lines.{network_line, error_line, line_of, Wrote}
@@ -19,24 +19,24 @@ unfoldable pub line : String → List ℕ
 line []ˢ = 10 ∷ []
 line (c ∷ˢ t) = code c ∷ line t
 
-abbrev network : ℕ → ℕ → ℕ → Offset → Network
+abbrev network : ℕ → ℕ → ℕ → Option ℕ → Network
 network high low len o = record { key = record { high = high; low = low }; len = len; kind = V4; offset = o }
 
 -- the three lines of image A
-pub case13 : line_of 32 (Given (network 0 0 1 (offset.At 0))) ++ line_of 32 (Given (network 0 (2 ^ 31) 1 offset.None)) ++ line_of 32 End
+pub case13 : line_of 32 (Given (network 0 0 1 (Some 0))) ++ line_of 32 (Given (network 0 (2 ^ 31) 1 None)) ++ line_of 32 End
     ≡ line "00000000/1 0" ++ line "80000000/1 -" ++ line "end"
 unfolding line digits places network_line
 case13 = refl
 
-pub ipv6 : line_of 128 (Given (network (2 ^ 63) 0 1 (offset.At 0))) ≡ line "80000000000000000000000000000000/1 0"
+pub ipv6 : line_of 128 (Given (network (2 ^ 63) 0 1 (Some 0))) ≡ line "80000000000000000000000000000000/1 0"
 unfolding line digits places network_line
 ipv6 = refl
 
-pub letters : line_of 128 (Given (network (2 ^ 64 - 1) 10 128 (offset.At 1234567890))) ≡ line "ffffffffffffffff000000000000000a/128 1234567890"
+pub letters : line_of 128 (Given (network (2 ^ 64 - 1) 10 128 (Some 1234567890))) ≡ line "ffffffffffffffff000000000000000a/128 1234567890"
 unfolding line digits places network_line
 letters = refl
 
-pub failed : line_of 32 (Failed 12) ≡ line "error 12"
+pub failed : line_of 32 (Failed refusal.TooDeep) ≡ line "error 12"
 unfolding line digits places error_line
 failed = refl
 

@@ -1,10 +1,9 @@
 -- The lines of a listing, each with its end, and what writing one into a lent buffer comes to.
-use Rattle.std.specs.Prelude.{ℕ, ◌+◌, ◌≤◌, ◌≡◌, cond, List, [], ◌∷◌, ◌++◌, eqb, length}
+use Rattle.std.specs.Prelude.{ℕ, ◌+◌, ◌≤◌, ◌≡◌, cond, List, [], ◌∷◌, ◌++◌, Option, Some, None, eqb, length}
 use Rattle.std.proofs.lemmas.List.Edits.{sets}
 use Rattle.number.specs.declared.Key.{Key}
 use Rattle.number.specs.Keys.{number_of}
-use Rattle.place.specs.declared.Offset.{Offset}
-use Rattle.place.specs.declared.Offset.TheVariants as offset
+use Rattle.refusal.specs.Refusals as refusals
 use Rattle.place.specs.declared.Network.{Network}
 use Rattle.place.specs.declared.Outcome.{Outcome}
 use Rattle.place.specs.declared.Outcome.TheVariants.{Given, Failed, Refused, Paused, End}
@@ -15,9 +14,9 @@ abbrev pub key_text : ℕ → Key → List ℕ
 key_text width k = digits 16 (cond (eqb width 32) 8 32) (number_of k)
 
 -- where the data stand, or `-` for none
-abbrev pub offset_text : Offset → List ℕ
-offset_text (offset.At n) = decimal n
-offset_text offset.None = 45 ∷ []
+abbrev pub offset_text : Option ℕ → List ℕ
+offset_text (Some n) = decimal n
+offset_text None = 45 ∷ []
 
 -- `00000000/1 0`
 unfoldable pub network_line : ℕ → Network → List ℕ
@@ -34,8 +33,8 @@ end_line = 101 ∷ 110 ∷ 100 ∷ 10 ∷ []
 -- the line of what a walk's call hands out; a pause has none
 abbrev pub line_of : ℕ → Outcome → List ℕ
 line_of width (Given n) = network_line width n
-line_of width (Failed n) = error_line n
-line_of width (Refused n) = error_line n
+line_of width (Failed e) = error_line (refusals.number_of e)
+line_of width (Refused e) = error_line (refusals.number_of e)
 line_of width Paused = []
 line_of width End = end_line
 

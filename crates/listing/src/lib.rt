@@ -7,14 +7,18 @@ ghost use Rattle.listing.specs.Digits.{glyph_of, digits, places, decimal};
 ghost use Rattle.listing.specs.Lines.{key_text, offset_text, network_line, error_line, line_of, Wrote};
 
 use number::Key;
-use place::{Network, Offset, Outcome};
+use place::{Network, Outcome};
 
 // The digit of a number below 16.
 fn glyph(d: u64) -> u8
     requires { d < 16 }
     ensures { result ≡ glyph_of d }
 {
-    if d < 10 { 48 + d as u8 } else { 87 + d as u8 }
+    if d < 10 {
+        b'0' + d as u8
+    } else {
+        b'a' + (d as u8 - 10)
+    }
 }
 
 // The last digits of a number, written from the lowest up.
@@ -23,10 +27,8 @@ fn put_digits(buf: &mut [u8], at: usize, n: u64, base: u64, count: usize)
     requires count_in_bounds { at + count ≤ length buf.old }
     ensures { buf.new ≡ sets buf.old at (digits base count n) }
 {
-    let mut left = count;
     let mut rest = n;
-    while 0 < left {
-        left -= 1;
+    for left in (0..count).rev() {
         buf[at + left] = glyph(rest % base);
         rest /= base;
     }
@@ -36,18 +38,10 @@ fn put_digits(buf: &mut [u8], at: usize, n: u64, base: u64, count: usize)
 fn decimal_places(n: u64) -> usize
     ensures { (result ≡ places 19 n) × (result ≤ 20) }
 {
-    let mut count: usize = 1;
-    let mut rest = n;
-    let mut left: usize = 19;
-    while 0 < left {
-        if rest < 10 {
-            break;
-        }
-        rest /= 10;
-        count += 1;
-        left -= 1;
+    match n.checked_ilog10() {
+        Some(log) => log as usize + 1,
+        None => 1,
     }
-    count
 }
 
 fn put_decimal(buf: &mut [u8], at: usize, n: u64) -> usize
@@ -63,12 +57,9 @@ fn put_text(buf: &mut [u8], at: usize, text: &[u8]) -> usize
     requires { at + length text.now ≤ length buf.old }
     ensures { Wrote (length text.now) buf.old at text.now result buf.new }
 {
-    let mut i: usize = 0;
-    while i < text.len() {
-        buf[at + i] = text[i];
-        i += 1;
-    }
-    at + text.len()
+    let end = at + text.len();
+    buf[at..end].copy_from_slice(text);
+    end
 }
 
 // A key in hexadecimal: 8 digits for IPv4, 32 for IPv6.
@@ -85,13 +76,13 @@ fn put_key(buf: &mut [u8], at: usize, width: u64, key: Key) -> usize
     at + 32
 }
 
-fn put_offset(buf: &mut [u8], at: usize, offset: Offset) -> usize
+fn put_offset(buf: &mut [u8], at: usize, offset: Option<u64>) -> usize
     requires { at + 20 ≤ length buf.old }
     ensures { Wrote 20 buf.old at (offset_text offset) result buf.new }
 {
     match offset {
-        Offset::At(n) => put_decimal(buf, at, n),
-        Offset::None => put_text(buf, at, b"-"),
+        Some(n) => put_decimal(buf, at, n),
+        None => put_text(buf, at, b"-"),
     }
 }
 
@@ -126,8 +117,9 @@ pub fn put_outcome(buf: &mut [u8], at: usize, width: u64, outcome: Outcome) -> u
 {
     match outcome {
         Outcome::Given(network) => put_network(buf, at, width, network),
-        Outcome::Failed(number) => put_error(buf, at, number),
-        Outcome::Refused(number) => put_error(buf, at, number),
+        Outcome::Failed(refusal) | Outcome::Refused(refusal) => {
+            put_error(buf, at, refusal.number())
+        }
         Outcome::Paused => at,
         Outcome::End => put_text(buf, at, b"end\n"),
     }

@@ -19,8 +19,7 @@ loop-left-preserved c = (
   ap (λ (g : ℕ). sets (set c.loop-left.buf (c.args.at + (c.loop-left.left - 1)) g) c.args.at (digits c.args.base (c.loop-left.left - 1) (c.loop-left.rest / c.args.base))) c.glyph.ensures
       ∙ digit_written c.args.base c.loop-left.left c.loop-left.rest c.args.at c.loop-left.buf (omega arith)
       ∙ c.loop-left.invariant.0,
-  omega arith,
-  simp length-set c.loop-left.invariant.2,
+  simp length-set c.loop-left.invariant.1,
 )
 
 pub returns : goal.returns

@@ -1,4 +1,3 @@
-use Prim.Native.Nat.{◌≤◌}
 use mathlib.Core.Path.{◌≡◌}
 use lib.ListN.{length}
 use lib.Seq.{sets}
@@ -6,7 +5,4 @@ use Rattle.listing.specs.Digits.{digits}
 use Rattle.listing.proofs.put_digits.Given as goal
 
 abbrev pub invariant-loop-left : goal.invariant-loop-left
-invariant-loop-left l = (sets l.buf l.at (digits l.base l.left l.rest) ≡ sets l.initial.buf l.at (digits l.base l.count l.n)) × (l.left ≤ l.count) × (length l.buf ≡ length l.initial.buf)
-
-abbrev pub decreases-loop-left : goal.decreases-loop-left
-decreases-loop-left l = l.left
+invariant-loop-left l = (sets l.buf l.at (digits l.base l.left l.rest) ≡ sets l.initial.buf l.at (digits l.base l.count l.n)) × (length l.buf ≡ length l.initial.buf)
