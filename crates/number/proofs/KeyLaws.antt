@@ -94,3 +94,6 @@ module _ (h l : ℕ) (hl : l < 2 ^ 64) where
       ∙ zero-mul (2 ^ (k - 64))
       in
       clear_high k (omega arith) ∙ ap (λ (j : ℕ). key j 0) e
+
+-- what the functions on keys need
+pub ruleset keys = (one_shl, clear_fits, bit_high, bit_low, set_low, set_high, clear_low, clear_high, clear_all)

@@ -2,9 +2,8 @@
 #![tactic(auto)]
 
 ghost use Rattle.std.specs.Prelude.{◌≡◌, ◌+◌, ◌*◌, ◌^◌, ◌≤◌, ◌<◌, leb, length};
-ghost use Rattle.std.specs.Int.Bits.{bit_or};
 ghost use Rattle.number.specs.Bytes.{be_at};
-ghost use Rattle.number.specs.Keys.{number_of, key_of, bit_from_top, with_bit, masked_to, cleared};
+ghost use Rattle.number.specs.Keys.{number_of, key_of, bit_from_top, with_bit, masked_to};
 
 // An address or a key of a network: a number below 2^128.
 #[derive(Clone, Copy)]
@@ -23,7 +22,7 @@ pub fn wide(x: u8) -> u64
 pub fn room(a: usize, k: usize, max: usize) -> bool
     ensures { result ≡ leb (a + k) max }
 {
-    if a <= max { k <= max - a } else { false }
+    a.checked_add(k).is_some_and(|end| end <= max)
 }
 
 // The number that `n` bytes from `p` on spell.
@@ -32,15 +31,14 @@ pub fn be(s: &[u8], p: usize, n: usize) -> u64
     ensures { (result ≡ be_at s.now p n) × (result < 2 ^ (8 * n)) }
 {
     let mut v: u64 = 0;
-    let mut i: usize = 0;
-    while i < n {
-        v = v * 256 + wide(s[p + i]);
-        i += 1;
+    for &b in &s[p..p + n] {
+        v = v * 256 + u64::from(b);
     }
     v
 }
 
 // The bit of an address at `index`, counted from the top of its width.
+#[tactic(auto, using(crate::proofs::KeyLaws::keys))]
 pub fn get_bit(key: Key, width: u64, index: u64) -> u64
     requires { (index < width) × (width ≤ 128) }
     ensures { result ≡ bit_from_top (number_of key) width index }
@@ -53,14 +51,8 @@ pub fn get_bit(key: Key, width: u64, index: u64) -> u64
     }
 }
 
-fn set_in_half(half: u64, k: u64) -> u64
-    requires { k < 64 }
-    ensures { result ≡ bit_or half (2 ^ k) }
-{
-    half | (1u64 << k)
-}
-
 // The address with the bit at `index` set.
+#[tactic(auto, using(crate::proofs::KeyLaws::keys))]
 pub fn set_bit(key: Key, width: u64, index: u64) -> Key
     requires { (index < width) × (width ≤ 128) }
     ensures { result ≡ key_of (with_bit (number_of key) width index) }
@@ -69,40 +61,32 @@ pub fn set_bit(key: Key, width: u64, index: u64) -> Key
     if k < 64 {
         Key {
             high: key.high,
-            low: set_in_half(key.low, k),
+            low: key.low | (1 << k),
         }
     } else {
         Key {
-            high: set_in_half(key.high, k - 64),
+            high: key.high | (1 << (k - 64)),
             low: key.low,
         }
     }
 }
 
-fn cleared_half(half: u64, k: u64) -> u64
-    requires { k < 64 }
-    ensures { result ≡ cleared half k }
-{
-    (half >> k) << k
-}
-
 // The address with its host bits, those past `len`, cleared.
+#[tactic(auto, using(crate::proofs::KeyLaws::keys))]
 pub fn masked(key: Key, width: u64, len: u64) -> Key
     requires { (len ≤ width) × (width ≤ 128) }
     ensures { result ≡ key_of (masked_to (number_of key) width len) }
 {
     let host = width - len;
-    if host < 64 {
-        return Key {
+    match host {
+        0..=63 => Key {
             high: key.high,
-            low: cleared_half(key.low, host),
-        };
-    }
-    if host < 128 {
-        return Key {
-            high: cleared_half(key.high, host - 64),
+            low: (key.low >> host) << host,
+        },
+        64..=127 => Key {
+            high: (key.high >> (host - 64)) << (host - 64),
             low: 0,
-        };
+        },
+        _ => Key { high: 0, low: 0 },
     }
-    Key { high: 0, low: 0 }
 }
