@@ -11,7 +11,7 @@ use lib.Dec.{eqb, ltb, leb}
 use lib.Pow.{pow-lt, split}
 use lib.Bits.{or_lt}
 use borrow.Author.Tests.{eq-eqb, ne_eqb, le-leb, lt-ltb, le-ltb, ltb-true, leb-true}
-use Rattle.refusal.specs.Refusals as refusal
+use Rattle.refusal.specs.declared.Refusal.TheVariants as refusal
 use Rattle.number.specs.declared.Key.{Key}
 use Rattle.number.specs.Keys.{number_of, key_of, with_bit, masked_to}
 use Rattle.handle.specs.declared.Handle.{Handle}
@@ -132,18 +132,18 @@ module _ (s : List ℕ) (h : Handle) where
       (good_left s h.size w.width (w.count - 1) (newest w) g short)
 
   abbrev Fine : Called → Type 0
-  Fine c = Sound c.walk × (c.answer ≡ Refused refusal.out_of_shape → ⊥)
+  Fine c = Sound c.walk × (c.answer ≡ Refused refusal.OutOfShape → ⊥)
 
   fine : (n t : ℕ) (w : Walk) → Sound w → Fine (goes s h n t w)
   fine =
       by_goes s h (λ n t w c. Sound w → Fine c)
       (record {
-        end = λ n t w z d. (d, λ e. let z : ◌≡◌ {A = ℕ} 0 1 = cc in omega arith);
+        end = λ n t w z d. (d, λ e. cc);
         out = λ n t w l f d. absurd (false≢true (sym (in_shape_lem h.nodes w d l) ∙ f));
-        paused = λ t w r d. (d, λ e. let z : ◌≡◌ {A = ℕ} 0 1 = cc in omega arith);
+        paused = λ t w r d. (d, λ e. cc);
         handed = λ n t w a r e d. (
           sound_taken w d,
-          (handed_only (out_handed (data_section s h) h w.options w.width (newest w) a e)).0 refusal.out_of_shape,
+          (handed_only (out_handed (data_section s h) h w.options w.width (newest w) a e)).0 refusal.OutOfShape,
         );
         passed = λ n t w c r e q d. q (sound_taken w d);
         opened = λ n t w c r e q d. q (sound_opened w d r.0 (opened (data_section s h) h w.options w.width (newest w) e).1);
@@ -201,7 +201,7 @@ module _ (s : List ℕ) (h : Handle) where
       where
         pick :
             (x y z : Bool) → fits_of h (length s) ≡ x → leb a.len a.width ≡ y
-            → Sound (cond x (cond y (cond z (refused_start refusal.ipv6_in_ipv4) (begun_with (first_of s h a) o)) (refused_start refusal.prefix_length)) (refused_start refusal.handle)).walk
+            → Sound (cond x (cond y (cond z (refused_start refusal.Ipv6InIpv4) (begun_with (first_of s h a) o)) (refused_start refusal.PrefixLength)) (refused_start refusal.Handle)).walk
         pick true true true e f = sound_refused
         pick true true false e f = sound_begun (fit h (length s) e).shallow (leb-true _ _ f)
         pick true false z e f = sound_refused
@@ -212,14 +212,14 @@ module _ (s : List ℕ) (h : Handle) where
   unfolding next_of
   fine_next w b d = pick (fits_of h (length s))
     where
-      pick : (x : Bool) → Fine (cond x (goes s h b 0 w) (called (Refused refusal.handle) 0 w))
+      pick : (x : Bool) → Fine (cond x (goes s h b 0 w) (called (Refused refusal.Handle) 0 w))
       pick true = fine b 0 w d
-      pick false = (d, λ e. let z : ◌≡◌ {A = ℕ} 9 13 = cc in omega arith)
+      pick false = (d, λ e. cc)
 
   pub sound : {w : Walk} → Carried s h w → Sound w
   sound (begun r o a) = sound_start r o a
   sound (next {w = w} b c) = (fine_next w b (sound c)).0
 
   -- whatever the image, the handle, the range, the options, the cuts and the budgets
-  pub never_13 : {w : Walk} → Carried s h w → (b : ℕ) → (next_of s h w b).answer ≡ Refused refusal.out_of_shape → ⊥
+  pub never_13 : {w : Walk} → Carried s h w → (b : ℕ) → (next_of s h w b).answer ≡ Refused refusal.OutOfShape → ⊥
   never_13 {w} c b = (fine_next w b (sound c)).1

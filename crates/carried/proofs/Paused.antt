@@ -5,7 +5,7 @@ use mathlib.Core.Bool.{Bool, true, false, cond}
 use mathlib.Core.List.{List}
 use native.Mathlib.Omega.{arith}
 use lib.ListN.{length}
-use Rattle.refusal.specs.Refusals as refusal
+use Rattle.refusal.specs.declared.Refusal.TheVariants as refusal
 use Rattle.handle.specs.declared.Handle.{Handle}
 use Rattle.handle.specs.Handle.{fits_of}
 use Rattle.place.specs.declared.Outcome.TheVariants.{Refused, Paused}
@@ -37,8 +37,8 @@ unfolding next_of
 paused_after s h w b = pick (fits_of h (length s))
   where
     pick :
-        (f : Bool) → (cond f (goes s h b 0 w) (called (Refused refusal.handle) 0 w)).answer ≡ Paused
-        → (cond f (goes s h b 0 w) (called (Refused refusal.handle) 0 w)).taken ≡ b
+        (f : Bool) → (cond f (goes s h b 0 w) (called (Refused refusal.Handle) 0 w)).answer ≡ Paused
+        → (cond f (goes s h b 0 w) (called (Refused refusal.Handle) 0 w)).taken ≡ b
     pick true e = omega (arith, (counted s h b 0 w).1 e)
     pick false e = cc
 
@@ -47,6 +47,6 @@ pub within_budget : (s : List ℕ) (h : Handle) (w : Walk) (b : ℕ) → (next_o
 unfolding next_of
 within_budget s h w b = pick (fits_of h (length s))
   where
-    pick : (f : Bool) → (cond f (goes s h b 0 w) (called (Refused refusal.handle) 0 w)).taken ≤ b
+    pick : (f : Bool) → (cond f (goes s h b 0 w) (called (Refused refusal.Handle) 0 w)).taken ≤ b
     pick true = omega (arith, (counted s h b 0 w).0)
     pick false = omega arith

@@ -21,12 +21,11 @@ use Rattle.place.specs.Turns.{child_key, turn_of}
 use Rattle.place.specs.declared.Options.{Options}
 use Rattle.place.specs.declared.NetworkKind.{NetworkKind}
 use Rattle.place.specs.declared.NetworkKind.TheVariants.{V4, V6, V4InV6Subtree}
-use Rattle.place.specs.declared.Offset.{Offset}
-use Rattle.place.specs.declared.Offset.TheVariants.{At, None}
+use Rattle.std.specs.Prelude.{Option, Some, None, is_none, Err}
+use Rattle.refusal.specs.declared.Refusal.TheVariants as refusal
 use Rattle.place.specs.declared.Outcome.{Outcome}
 use Rattle.place.specs.declared.Outcome.TheVariants.{Given, Failed, Refused, Paused, End}
 use Rattle.walk.specs.declared.Range.TheVariants.{Ipv4, Ipv6}
-use Rattle.walk.specs.declared.Status.TheVariants as status
 use Rattle.walk.specs.declared.Walk.{Walk}
 use Rattle.walk.specs.Walks.{none}
 use Rattle.walk.specs.Starts.{first_of, begin_of}
@@ -43,17 +42,13 @@ opened version start4 depth4 = record { version = version; nodes = 1; size = 24;
 abbrev options : Bool → Bool → Bool → Options
 options aliased dataless skipempty = record { aliased = aliased; dataless = dataless; skipempty = skipempty }
 
-abbrev pub net : ℕ → ℕ → NetworkKind → Offset → Outcome
+abbrev pub net : ℕ → ℕ → NetworkKind → Option ℕ → Outcome
 net key len kind offset = Given (record { key = key_of key; len = len; kind = kind; offset = offset })
 
 abbrev is_v4 : NetworkKind → Bool
 is_v4 V4 = true
 is_v4 V6 = false
 is_v4 V4InV6Subtree = false
-
-abbrev is_none : Offset → Bool
-is_none (At offset) = false
-is_none None = true
 
 -- the answers of n calls in a row, and the places taken in them
 unfoldable pub answers : List ℕ → Handle → ℕ → Walk → List Outcome
@@ -91,7 +86,7 @@ halving s h (suc n) w = is_bare (2 ^ (31 - n)) (n + 1) (next_of s h w 100).answe
 -- 12 first, then 32 networks from 0.0.0.1/32 on, then End
 pub endless :
     let c = next_of (image 0 1) (opened 4 0 0) whole 100 in
-    (c.answer ≡ Failed 12) × (halving (image 0 1) (opened 4 0 0) 32 c.walk ≡ true)
+    (c.answer ≡ Failed refusal.TooDeep) × (halving (image 0 1) (opened 4 0 0) 32 c.walk ≡ true)
 unfolding halving is_bare is_end next_of goes out_of_shape newest_out turn_of kind_of is_alias child_key answer_of begin_of first_of fits_of down record_at be_at
 endless = (refl, refl)
 
@@ -100,13 +95,13 @@ unfolding spent next_of goes out_of_shape newest_out turn_of kind_of is_alias ch
 places = refl
 
 -- 10: an IPv6 image with both records 17: the default walk gives ::/1 alone; with aliases 8000::/1 too
-pub default : answers (image 17 17) (opened 6 17 1) 2 (begin_of (image 17 17) (opened 6 17 1) (Ipv6 (key_of 0) 0) (options false false false)).walk ≡ net 0 1 V6 (At 0) ∷ End ∷ []
+pub default : answers (image 17 17) (opened 6 17 1) 2 (begin_of (image 17 17) (opened 6 17 1) (Ipv6 (key_of 0) 0) (options false false false)).walk ≡ net 0 1 V6 (Some 0) ∷ End ∷ []
 unfolding answers next_of goes out_of_shape newest_out turn_of kind_of is_alias child_key answer_of begin_of first_of fits_of down record_at be_at
 default = refl
 
 pub aliases :
     answers (image 17 17) (opened 6 17 1) 3 (begin_of (image 17 17) (opened 6 17 1) (Ipv6 (key_of 0) 0) (options true false false)).walk
-    ≡ net 0 1 V6 (At 0) ∷ net (2 ^ 127) 1 V6 (At 0) ∷ End ∷ []
+    ≡ net 0 1 V6 (Some 0) ∷ net (2 ^ 127) 1 V6 (Some 0) ∷ End ∷ []
 unfolding answers next_of goes out_of_shape newest_out turn_of kind_of is_alias child_key answer_of begin_of first_of fits_of down record_at be_at
 aliases = refl
 
@@ -136,7 +131,7 @@ forged =
 
 pub misshapen :
     let c = next_of (image 17 1) (opened 4 0 0) forged 100 in
-    (c.answer ≡ Refused 13) × (c.taken ≡ 1) × (c.walk.count ≡ 1)
+    (c.answer ≡ Refused refusal.OutOfShape) × (c.taken ≡ 1) × (c.walk.count ≡ 1)
 unfolding next_of goes out_of_shape newest_out turn_of kind_of is_alias child_key answer_of begin_of first_of fits_of down record_at be_at
 misshapen = (refl, refl, refl)
 
@@ -149,7 +144,7 @@ empty = refl
 
 pub kept :
     answers (image 17 1) (opened 4 0 0) 3 (begin_of (image 17 1) (opened 4 0 0) (Ipv4 0 0) (options false true false)).walk
-    ≡ net 0 1 V4 (At 0) ∷ net (2 ^ 31) 1 V4 None ∷ End ∷ []
+    ≡ net 0 1 V4 (Some 0) ∷ net (2 ^ 31) 1 V4 None ∷ End ∷ []
 unfolding answers next_of goes out_of_shape newest_out turn_of kind_of is_alias child_key answer_of begin_of first_of fits_of down record_at be_at
 kept = refl
 
@@ -164,29 +159,29 @@ single value len width =
     }
 
 -- a value above 2^32 is 11, and the walk goes on
-pub beyond : answers (image 17 1) (opened 4 0 0) 2 (single (2 ^ 40) 5 32) ≡ Failed 11 ∷ End ∷ []
+pub beyond : answers (image 17 1) (opened 4 0 0) 2 (single (2 ^ 40) 5 32) ≡ Failed refusal.Record ∷ End ∷ []
 unfolding answers next_of goes out_of_shape newest_out turn_of kind_of is_alias child_key answer_of begin_of first_of fits_of down record_at be_at
 beyond = refl
 
 -- width 128 over an IPv4 image is no 13; width 32 over an IPv6 image without IPv4 subtree gives an IPv6 network, its key masked
 pub strange :
-    (answers (image 17 1) (opened 4 0 0) 1 (single 17 127 128) ≡ net 2 127 V6 (At 0) ∷ [])
-    × (answers (image 17 17) (opened 6 17 1) 1 (single 17 31 32) ≡ net 2 31 V6 (At 0) ∷ [])
+    (answers (image 17 1) (opened 4 0 0) 1 (single 17 127 128) ≡ net 2 127 V6 (Some 0) ∷ [])
+    × (answers (image 17 17) (opened 6 17 1) 1 (single 17 31 32) ≡ net 2 31 V6 (Some 0) ∷ [])
 unfolding answers next_of goes out_of_shape newest_out turn_of kind_of is_alias child_key answer_of begin_of first_of fits_of down record_at be_at
 strange = (refl, refl)
 
 -- no place waiting is End at any budget; one that waits is Paused at none; a handle that does not fit is 9
 pub ends :
     ((next_of (image 17 1) (opened 4 0 0) (single 17 1 32) 0).answer ≡ Paused)
-    × ((next_of (image 17 1) (opened 4 1 0) (single 17 1 32) 5).answer ≡ Refused 9)
+    × ((next_of (image 17 1) (opened 4 1 0) (single 17 1 32) 5).answer ≡ Refused refusal.Handle)
     × ((next_of (image 17 1) (opened 4 0 0) (begin_of (image 17 1) (opened 4 0 0) (Ipv4 0 33) (options true true true)).walk 0).answer ≡ End)
 unfolding next_of goes out_of_shape newest_out turn_of kind_of is_alias child_key answer_of begin_of first_of fits_of down record_at be_at
 ends = (refl, refl, refl)
 
 -- 9, 16, 10
 pub starts :
-    ((begin_of (image 17 1) (opened 4 1 0) (Ipv6 (key_of 0) 129) (options true true true)).status ≡ status.Refused 9)
-    × ((begin_of (image 17 1) (opened 4 0 0) (Ipv6 (key_of 0) 129) (options true true true)).status ≡ status.Refused 16)
-    × ((begin_of (image 17 1) (opened 4 0 0) (Ipv6 (key_of 0) 128) (options true true true)).status ≡ status.Refused 10)
+    ((begin_of (image 17 1) (opened 4 1 0) (Ipv6 (key_of 0) 129) (options true true true)).status ≡ Err refusal.Handle)
+    × ((begin_of (image 17 1) (opened 4 0 0) (Ipv6 (key_of 0) 129) (options true true true)).status ≡ Err refusal.PrefixLength)
+    × ((begin_of (image 17 1) (opened 4 0 0) (Ipv6 (key_of 0) 128) (options true true true)).status ≡ Err refusal.Ipv6InIpv4)
 unfolding next_of goes out_of_shape newest_out turn_of kind_of is_alias child_key answer_of begin_of first_of fits_of down record_at be_at
 starts = (refl, refl, refl)
