@@ -23,16 +23,13 @@ pub fn descend(
     ensures { result ≡ down s.now size nodes (number_of key) width 0 bits start }
 {
     let mut node = start;
-    let mut depth: u64 = 0;
-    while depth < bits {
+    for depth in 0..bits {
         if nodes <= node {
             return Place { node, depth };
         }
-        let bit = get_bit(key, width, depth);
-        node = read_node(s, size, node, bit);
-        depth += 1;
+        node = read_node(s, size, node, get_bit(key, width, depth));
     }
-    Place { node, depth }
+    Place { node, depth: bits }
 }
 
 // Where IPv4 addresses start in a tree of IPv6 addresses.
