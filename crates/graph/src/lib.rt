@@ -3,14 +3,12 @@
 
 ghost use Rattle.std.specs.Prelude.{◌≡◌, ◌+◌, ◌≤◌, length};
 ghost use Rattle.stored.specs.Stored.{Lies};
-ghost use Rattle.graph.specs.Visit.{text_of, on_link, by_kind, visit_at};
+ghost use Rattle.graph.specs.Visit.{text_of, by_kind, visit_at};
 ghost use Rattle.graph.specs.Graph.{res, target_at, skip_at, verify_at};
 ghost use Rattle.graph.specs.Words.{on_words, needed};
 
-use control::{
-    Kind, Link, TYPE_ARRAY, TYPE_MAP, TYPE_POINTER, TYPE_STRING, decode_pointer, is_type,
-};
-use marks::{ACTIVE, VALIDATED, set_state, state};
+use control::{Kind, decode_pointer};
+use marks::{Mark, set_state, state};
 use stored::{Layout, stored};
 use text::utf8;
 
@@ -34,86 +32,66 @@ pub enum Visit {
         next: usize,
         work: usize,
     },
-    Refused,
 }
 
 // Where a value ends, and the work that is left.
 #[derive(Clone, Copy)]
-pub enum Skipped {
-    To { next: usize, work: usize },
-    Refused,
+pub struct Skipped {
+    pub next: usize,
+    pub work: usize,
 }
 
-fn visit_text(s: &[u8], size: usize, payload: usize, next: usize, work: usize) -> Visit
-    requires { payload + size ≤ length s.now }
-    ensures { result ≡ text_of s.now size payload next work }
+fn visit_text(s: &[u8], text: Layout, work: usize) -> Option<Visit>
+    requires { text.payload + text.size ≤ length s.now }
+    ensures { result ≡ text_of s.now text.size text.payload text.next work }
 {
-    if size <= work {
-        if utf8(&s[payload..payload + size]) {
-            return Visit::Leaf {
-                next,
-                work: work - size,
-            };
+    let left = work.checked_sub(text.size)?;
+    if !utf8(&s[text.payload..text.payload + text.size]) {
+        return None;
+    }
+    Some(Visit::Leaf {
+        next: text.next,
+        work: left,
+    })
+}
+
+#[tactic(auto, unfolding(crate::specs::Visit::by_kind))]
+fn visit_kind(s: &[u8], value: Layout, work: usize) -> Option<Visit>
+    requires { Lies (length s.now) value.kind value.size value.payload }
+    ensures { result ≡ by_kind s.now value.kind value.size value.payload value.next work }
+{
+    let next = value.next;
+    match value.kind {
+        Kind::Text => visit_text(s, value, work),
+        Kind::Pointer => {
+            let link = decode_pointer(s, value.size, value.payload)?;
+            Some(Visit::Pointer {
+                target: link.target,
+                next: link.next,
+                work,
+            })
         }
-    }
-    Visit::Refused
-}
-
-fn visit_link(link: Link, work: usize) -> Visit
-    ensures { result ≡ on_link work link }
-{
-    match link {
-        Link::To { target, next } => Visit::Pointer { target, next, work },
-        Link::Broken => Visit::Refused,
-    }
-}
-
-fn visit_kind(s: &[u8], kind: Kind, size: usize, payload: usize, next: usize, work: usize) -> Visit
-    requires { Lies (length s.now) kind size payload }
-    ensures { result ≡ by_kind s.now kind size payload next work }
-{
-    if is_type(kind, TYPE_STRING) {
-        return visit_text(s, size, payload, next, work);
-    }
-    if is_type(kind, TYPE_POINTER) {
-        return visit_link(decode_pointer(s, size, payload), work);
-    }
-    if is_type(kind, TYPE_MAP) {
-        return Visit::Children {
-            count: size * 2,
+        Kind::Map => Some(Visit::Children {
+            count: value.size * 2,
             first: next,
             work,
-        };
-    }
-    if is_type(kind, TYPE_ARRAY) {
-        return Visit::Children {
-            count: size,
+        }),
+        Kind::Array => Some(Visit::Children {
+            count: value.size,
             first: next,
             work,
-        };
+        }),
+        _ => Some(Visit::Leaf { next, work }),
     }
-    Visit::Leaf { next, work }
 }
 
 // One value by itself, charged: what is inside it or behind it is not looked at.
-fn visit_value(s: &[u8], at: usize, work: usize) -> Visit
+#[tactic(auto, unfolding(crate::specs::Visit::visit_at))]
+fn visit_value(s: &[u8], at: usize, work: usize) -> Option<Visit>
     ensures { result ≡ visit_at s.now at work }
 {
-    match stored(s, at) {
-        Layout::At {
-            kind,
-            size,
-            payload,
-            next,
-        } => {
-            if work == 0 {
-                Visit::Refused
-            } else {
-                visit_kind(s, kind, size, payload, next, work - 1)
-            }
-        }
-        Layout::Bad => Visit::Refused,
-    }
+    let value = stored(s, at)?;
+    visit_kind(s, value, work.checked_sub(1)?)
 }
 
 // The value that a pointer, or the tree, leads to: once.
@@ -124,27 +102,22 @@ fn verify_pointer_target(
     target: usize,
     levels: usize,
     work: usize,
-) -> Skipped
+) -> Option<Skipped>
     requires { needed (length s.now) ≤ length bits.old }
     ensures { res result bits.new ≡ target_at on_words (skip_at on_words levels s.now) (length s.now) target work bits.old }
 {
     if s.len() <= target {
-        return Skipped::Refused;
+        return None;
     }
-    let st = state(bits, target);
-    if st == VALIDATED {
-        return Skipped::To { next: target, work };
-    }
-    if st == ACTIVE {
-        return Skipped::Refused;
-    }
-    set_state(bits, target, ACTIVE);
-    match skip_value_with_verification(s, bits, target, levels, work) {
-        Skipped::To { next, work: left } => {
-            set_state(bits, target, VALIDATED);
-            Skipped::To { next, work: left }
+    match state(bits, target) {
+        Mark::Validated => Some(Skipped { next: target, work }),
+        Mark::Active => None, // a cycle
+        Mark::Free | Mark::Recorded => {
+            set_state(bits, target, Mark::Active);
+            let past = skip_value_with_verification(s, bits, target, levels, work)?;
+            set_state(bits, target, Mark::Validated);
+            Some(past)
         }
-        Skipped::Refused => Skipped::Refused,
     }
 }
 
@@ -156,64 +129,48 @@ fn skip_value_with_verification(
     at: usize,
     levels: usize,
     work: usize,
-) -> Skipped
+) -> Option<Skipped>
     requires { needed (length s.now) ≤ length bits.old }
     ensures { res result bits.new ≡ skip_at on_words levels s.now at work bits.old }
 {
-    match visit_value(s, at, work) {
-        Visit::Refused => Skipped::Refused,
-        Visit::Leaf { next, work: left } => Skipped::To { next, work: left },
+    match visit_value(s, at, work)? {
+        Visit::Leaf { next, work: left } => Some(Skipped { next, work: left }),
         Visit::Pointer {
             target,
             next,
             work: left,
         } => {
-            if levels == 0 {
-                return Skipped::Refused;
-            }
-            match verify_pointer_target(s, bits, target, levels - 1, left) {
-                Skipped::To {
-                    next: _,
-                    work: rest,
-                } => Skipped::To { next, work: rest },
-                Skipped::Refused => Skipped::Refused,
-            }
+            let behind = verify_pointer_target(s, bits, target, levels.checked_sub(1)?, left)?;
+            Some(Skipped {
+                next,
+                work: behind.work,
+            })
         }
         Visit::Children {
             count,
             first,
             work: left,
         } => {
-            if levels == 0 {
-                return Skipped::Refused;
+            let inside = levels.checked_sub(1)?;
+            let mut past = Skipped {
+                next: first,
+                work: left,
+            };
+            for _ in 0..count {
+                past = skip_value_with_verification(s, bits, past.next, inside, past.work)?;
             }
-            let mut n = count;
-            let mut p = first;
-            let mut rest = left;
-            while 0 < n {
-                let Skipped::To { next: q, work: w } = skip_value_with_verification(
-                    s,
-                    bits,
-                    p,
-                    levels - 1,
-                    rest,
-                ) else {
-                    return Skipped::Refused;
-                };
-                p = q;
-                rest = w;
-                n -= 1;
-            }
-            Skipped::To {
-                next: p,
-                work: rest,
-            }
+            Some(past)
         }
     }
 }
 
 // The value at a place that the tree recorded, or the first of the metadata.
-pub fn skip_value_for_verification(s: &[u8], bits: &mut [u64], at: usize, work: usize) -> Skipped
+pub fn skip_value_for_verification(
+    s: &[u8],
+    bits: &mut [u64],
+    at: usize,
+    work: usize,
+) -> Option<Skipped>
     requires { needed (length s.now) ≤ length bits.old }
     ensures { res result bits.new ≡ verify_at on_words s.now at work bits.old }
 {
