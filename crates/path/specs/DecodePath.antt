@@ -1,21 +1,17 @@
 -- A path and the reading at its end, as the crate's `decode_path_relative` goes: one decoder from the first element to the last.
-use Rattle.std.specs.Prelude.{ℕ, zero, suc, ◌+◌, ◌-◌, ◌*◌, List, [], ◌∷◌, Bool, true, false, cond, take, drop, leb, ltb}
-use Rattle.refusal.specs.Refusals.{malformed}
+use Rattle.std.specs.Prelude.{ℕ, zero, suc, ◌+◌, ◌-◌, ◌*◌, List, [], ◌∷◌, Bool, true, false, cond, take, drop, leb, ltb, Option, Some, None, Result, Ok, Err}
+use Rattle.refusal.specs.declared.Refusal.{Refusal}
+use Rattle.refusal.specs.declared.Refusal.TheVariants as refusal
 use Rattle.charge.specs.declared.Charge.{Charge}
 use Rattle.control.specs.Control.{is_type}
 use Rattle.stored.specs.Stored.{stored_at, resolved_at}
 use Rattle.stored.specs.declared.Layout.{Layout}
-use Rattle.stored.specs.declared.Layout.TheVariants as layout
 use Rattle.key.specs.Keys.{same_bytes, name_at}
 use Rattle.key.specs.declared.Name.{Name}
-use Rattle.key.specs.declared.Name.TheVariants as name
 use Rattle.value.specs.Value.{read_at}
 use Rattle.value.specs.declared.Value.{Value}
-use Rattle.value.specs.declared.Value.TheVariants as value
-use Rattle.path.specs.Steps.{key_step, index_step}
+use Rattle.path.specs.Steps.{Step, key_step, index_step}
 use Rattle.path.specs.declared.Cursor.{Cursor}
-use Rattle.path.specs.declared.Step.{Step}
-use Rattle.path.specs.declared.Step.TheVariants as step
 
 pub data Element : Type 0 where
   key : List ℕ → Element
@@ -64,12 +60,12 @@ each f (suc n) (on d) = each f n (f d)
 each f (suc n) failed = failed
 
 -- skip_value_inner: a map's or an array's children are reserved, and skipped one level deeper
-abbrev pub skip_on : (ℕ → Went → Went) → Decoder → Layout → Went
-skip_on deeper d (layout.At k n payload next) =
-    cond (is_type k 7) (then (reserve (at d next) (n * 2)) (λ x. deeper (n * 2) (on x)))
-    (cond (is_type k 11) (then (reserve (at d next) n) (λ x. deeper n (on x)))
-    (on (at d next)))
-skip_on deeper d layout.Bad = failed
+abbrev pub skip_on : (ℕ → Went → Went) → Decoder → Option Layout → Went
+skip_on deeper d (Some l) =
+    cond (is_type l.kind 7) (then (reserve (at d l.next) (l.size * 2)) (λ x. deeper (l.size * 2) (on x)))
+    (cond (is_type l.kind 11) (then (reserve (at d l.next) l.size) (λ x. deeper l.size (on x)))
+    (on (at d l.next)))
+skip_on deeper d None = failed
 
 unfoldable pub skip : List ℕ → ℕ → Decoder → Went
 skip s zero d = skip_on (λ n w. failed) d (stored_at s d.ptr)
@@ -86,15 +82,15 @@ or_bad (on d) f = f d
 or_bad failed f = bad
 
 -- consume_container_header, where the type is the one that the element wants
-abbrev pub container_on : Decoder → ℕ → (ℕ → ℕ) → (ℕ → Decoder → Reached) → Layout → Reached
-container_on d wanted children f (layout.At k n payload next) = cond (is_type k wanted) (or_bad (reserve (at d payload) (children n)) (f n)) bad
-container_on d wanted children f layout.Bad = bad
+abbrev pub container_on : Decoder → ℕ → (ℕ → ℕ) → (ℕ → Decoder → Reached) → Option Layout → Reached
+container_on d wanted children f (Some l) = cond (is_type l.kind wanted) (or_bad (reserve (at d l.payload) (children l.size)) (f l.size)) bad
+container_on d wanted children f None = bad
 
 -- read_str_as_bytes, and what the loop over the keys does with it
-abbrev pub key_on : List ℕ → List ℕ → (Decoder → Reached) → Decoder → Name → Reached
-key_on s k more d (name.Is from n next) =
-    or_bad (count_payload (at d next) n) (λ x. cond (same_bytes (take n (drop from s)) k) (found x) (or_bad (skip s 128 x) more))
-key_on s k more d name.Wrong = bad
+abbrev pub key_on : List ℕ → List ℕ → (Decoder → Reached) → Decoder → Option Name → Reached
+key_on s k more d (Some n) =
+    or_bad (count_payload (at d n.next) n.size) (λ x. cond (same_bytes (take n.size (drop n.from s)) k) (found x) (or_bad (skip s 128 x) more))
+key_on s k more d None = bad
 
 unfoldable pub keys : List ℕ → List ℕ → ℕ → Decoder → Reached
 keys s k zero d = none
@@ -114,13 +110,13 @@ charge_of d = record { values = cond d.active d.used 0; payload = 2097152 - d.re
 
 -- the answer of a path: a value or a refusal, or nothing there
 pub data Answer : Type 0 where
-  present : Value → Answer
+  present : Result Value Refusal → Answer
   absent : Answer
 
 abbrev pub go_on : (Decoder → Answer) → Reached → Answer
 go_on f (found d) = f d
 go_on f none = absent
-go_on f bad = present (value.Refused malformed)
+go_on f bad = present (Err refusal.Malformed)
 
 unfoldable pub decode_path : List ℕ → List Element → Decoder → Answer
 decode_path s [] d = present (read_at s d.ptr (charge_of d))
@@ -133,9 +129,9 @@ step_by s (index i) c = index_step s c i false
 step_by s (index_from_end i) c = index_step s c i true
 
 abbrev pub on_step : (Cursor → Answer) → Step → Answer
-on_step f (step.At c) = f c
-on_step f step.Absent = absent
-on_step f (step.Refused r) = present (value.Refused r)
+on_step f (Ok (Some c)) = f c
+on_step f (Ok None) = absent
+on_step f (Err r) = present (Err r)
 
 unfoldable pub steps : List ℕ → List Element → Cursor → Answer
 steps s [] c = present (read_at s c.place c.charge)

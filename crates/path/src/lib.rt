@@ -1,17 +1,17 @@
 // Stepping into a value: into a map by key, into an array by index.
 #![tactic(auto)]
 
-ghost use Rattle.std.specs.Prelude.{◌≡◌, ◌≤◌};
-ghost use Rattle.skip.specs.Skip.{many, skipped_at};
-ghost use Rattle.skip.specs.declared.Skipped.TheVariants as skipped;
+ghost use Rattle.std.specs.Prelude.{◌≡◌, ◌≤◌, Some};
+ghost use Rattle.control.specs.Control.{type_number};
+ghost use Rattle.skip.specs.Skip.{past, many, skipped_at};
 ghost use Rattle.path.specs.Steps.{landed, children_of, inside_of, inside_at, past_value, pair_at, find_from, element_from, key_step, index_step};
 
-use charge::{Charge, Charged, count_payload, reserve_values};
-use control::{Kind, TYPE_ARRAY, TYPE_MAP, is_type};
-use key::{Name, is_key, read_str_as_bytes};
-use refusal::MALFORMED;
-use skip::{Skipped, skip_value};
-use stored::{Layout, resolved};
+use charge::{Charge, count_payload, reserve_values};
+use control::Kind;
+use key::{is_key, read_str_as_bytes};
+use refusal::Refusal;
+use skip::{Past, skip_value};
+use stored::resolved;
 
 // A place of a section, and what has been charged on the way to it. A fresh one has charged nothing.
 #[repr(C)]
@@ -21,22 +21,12 @@ pub struct Cursor {
     pub charge: Charge,
 }
 
-#[derive(Clone, Copy)]
-pub enum Step {
-    At(Cursor),
-    Absent,
-    Refused(u8),
-}
-
 // A map or array that was entered: where its children begin, and its size.
 #[derive(Clone, Copy)]
-pub enum Inside {
-    Of {
-        first: usize,
-        size: usize,
-        charge: Charge,
-    },
-    Wrong,
+pub struct Inside {
+    pub first: usize,
+    pub size: usize,
+    pub charge: Charge,
 }
 
 // One pair of a map: its key is the one that is looked for, or the next pair begins past its value.
@@ -44,17 +34,16 @@ pub enum Inside {
 pub enum Pair {
     Here(Cursor),
     Not(Cursor),
-    Wrong,
 }
 
 // Nothing can be read at the section's end: no step leads there.
-fn land(s: &[u8], place: usize, charge: Charge) -> Step
-    ensures { result ≡ landed s.now place charge }
+fn land(s: &[u8], c: Cursor) -> Result<Option<Cursor>, Refusal>
+    ensures { result ≡ landed s.now c.place c.charge }
 {
-    if place < s.len() {
-        Step::At(Cursor { place, charge })
+    if c.place < s.len() {
+        Ok(Some(c))
     } else {
-        Step::Refused(MALFORMED)
+        Err(Refusal::Malformed)
     }
 }
 
@@ -62,177 +51,134 @@ fn children(kind: Kind, size: usize) -> usize
     requires { size ≤ 16843036 }
     ensures { result ≡ children_of kind size }
 {
-    if is_type(kind, TYPE_MAP) {
-        size * 2
-    } else {
-        size
-    }
-}
-
-fn enter(kind: Kind, size: usize, first: usize, c: Charge) -> Inside
-    requires { size ≤ 16843036 }
-    ensures { result ≡ inside_of kind size first c }
-{
-    match reserve_values(c, children(kind, size)) {
-        Charged::Within(charge) => Inside::Of {
-            first,
-            size,
-            charge,
-        },
-        Charged::Over => Inside::Wrong,
+    match kind {
+        Kind::Map => size * 2,
+        _ => size,
     }
 }
 
 // The children are charged whatever comes of the step, also where the first one is asked for.
-fn consume_container_header(s: &[u8], c: Cursor, wanted: usize) -> Inside
-    ensures { result ≡ inside_at s.now c wanted }
+fn enter(kind: Kind, size: usize, first: usize, c: Charge) -> Option<Inside>
+    requires { size ≤ 16843036 }
+    ensures { result ≡ inside_of kind size first c }
 {
-    match resolved(s, c.place) {
-        Layout::At {
-            kind,
-            size,
-            payload,
-            next: _,
-        } => {
-            if is_type(kind, wanted) {
-                let charge = c.charge;
-                enter(kind, size, payload, charge)
-            } else {
-                Inside::Wrong
-            }
-        }
-        Layout::Bad => Inside::Wrong,
-    }
+    let charge = reserve_values(c, children(kind, size))?;
+    Some(Inside {
+        first,
+        size,
+        charge,
+    })
 }
 
-fn past_value(s: &[u8], place: usize, charge: Charge) -> Pair
+#[tactic(auto, unfolding(crate::specs::Steps::inside_at))]
+fn consume_container_header(s: &[u8], c: Cursor, wanted: Kind) -> Option<Inside>
+    ensures { result ≡ inside_at s.now c (type_number wanted) }
+{
+    let l = resolved(s, c.place)?;
+    if l.kind != wanted {
+        return None;
+    }
+    enter(l.kind, l.size, l.payload, c.charge)
+}
+
+fn past_value(s: &[u8], place: usize, charge: Charge) -> Option<Pair>
     ensures { result ≡ past_value (skipped_at s.now place charge) }
 {
-    match skip_value(s, place, charge) {
-        Skipped::Past { next, charge: used } => Pair::Not(Cursor {
-            place: next,
-            charge: used,
-        }),
-        Skipped::Stuck => Pair::Wrong,
-    }
+    let past = skip_value(s, place, charge)?;
+    Some(Pair::Not(Cursor {
+        place: past.next,
+        charge: past.charge,
+    }))
 }
 
 // Every key that is compared is charged, the equal one too.
-fn pair_at(s: &[u8], key: &[u8], place: usize, c: Charge) -> Pair
-    ensures { result ≡ pair_at s.now key.now place c }
+#[tactic(auto, unfolding(crate::specs::Steps::pair_at))]
+fn pair_at(s: &[u8], key: &[u8], c: Cursor) -> Option<Pair>
+    ensures { result ≡ pair_at s.now key.now c.place c.charge }
 {
-    match read_str_as_bytes(s, place) {
-        Name::Is { from, size, next } => match count_payload(c, size) {
-            Charged::Within(charge) => {
-                if is_key(s, from, size, key) {
-                    Pair::Here(Cursor {
-                        place: next,
-                        charge,
-                    })
-                } else {
-                    past_value(s, next, charge)
-                }
-            }
-            Charged::Over => Pair::Wrong,
-        },
-        Name::Wrong => Pair::Wrong,
+    let name = read_str_as_bytes(s, c.place)?;
+    let charge = count_payload(c.charge, name.size)?;
+    if is_key(s, name.from, name.size, key) {
+        Some(Pair::Here(Cursor {
+            place: name.next,
+            charge,
+        }))
+    } else {
+        past_value(s, name.next, charge)
     }
 }
 
 // The first equal key counts.
-fn find_key(s: &[u8], key: &[u8], first: usize, size: usize, charge: Charge) -> Step
-    ensures { result ≡ find_from s.now key.now size first charge }
+#[tactic(auto, using(crate::proofs::PathLaws::find_here, crate::proofs::PathLaws::find_not, crate::proofs::PathLaws::find_wrong, crate::proofs::PathLaws::find_none))]
+fn find_key(s: &[u8], key: &[u8], inside: Inside) -> Result<Option<Cursor>, Refusal>
+    ensures { result ≡ find_from s.now key.now inside.size inside.first inside.charge }
 {
-    let mut place = first;
-    let mut used = charge;
-    let mut left = size;
-    while 0 < left {
-        match pair_at(s, key, place, used) {
-            Pair::Here(c) => {
-                let u = c.charge;
-                return land(s, c.place, u);
-            }
-            Pair::Not(c) => {
-                place = c.place;
-                let u = c.charge;
-                used = u;
-            }
-            Pair::Wrong => {
-                return Step::Refused(MALFORMED);
-            }
+    let mut cursor = Cursor {
+        place: inside.first,
+        charge: inside.charge,
+    };
+    for _ in 0..inside.size {
+        match pair_at(s, key, cursor).ok_or(Refusal::Malformed)? {
+            Pair::Here(c) => return land(s, c),
+            Pair::Not(c) => cursor = c,
         }
-        left -= 1;
     }
-    Step::Absent
+    Ok(None)
 }
 
-fn skip_many(s: &[u8], count: usize, first: usize, charge: Charge) -> Skipped
-    ensures { result ≡ many (skipped_at s.now) count (skipped.Past first charge) }
+#[tactic(auto, using(skip::proofs::SkipLaws::many_past, skip::proofs::SkipLaws::many_stuck, skip::proofs::SkipLaws::many_none))]
+fn skip_many(s: &[u8], count: usize, first: usize, charge: Charge) -> Option<Past>
+    ensures { result ≡ many (skipped_at s.now) count (Some (past first charge)) }
 {
-    let mut place = first;
-    let mut used = charge;
-    let mut left = count;
-    while 0 < left {
-        match skip_value(s, place, used) {
-            Skipped::Past { next, charge: u } => {
-                place = next;
-                used = u;
-            }
-            Skipped::Stuck => {
-                return Skipped::Stuck;
-            }
-        }
-        left -= 1;
+    let mut past = Past {
+        next: first,
+        charge,
+    };
+    for _ in 0..count {
+        past = skip_value(s, past.next, past.charge)?;
     }
-    Skipped::Past {
-        next: place,
-        charge: used,
-    }
+    Some(past)
 }
 
-fn element(s: &[u8], index: usize, first: usize, charge: Charge) -> Step
+fn element(s: &[u8], index: usize, first: usize, charge: Charge) -> Result<Option<Cursor>, Refusal>
     ensures { result ≡ element_from s.now index first charge }
 {
-    match skip_many(s, index, first, charge) {
-        Skipped::Past { next, charge: used } => land(s, next, used),
-        Skipped::Stuck => Step::Refused(MALFORMED),
-    }
+    let past = skip_many(s, index, first, charge).ok_or(Refusal::Malformed)?;
+    land(
+        s,
+        Cursor {
+            place: past.next,
+            charge: past.charge,
+        },
+    )
 }
 
-// A step into a map, to the value of a key of any bytes.
-pub fn step_key(s: &[u8], c: Cursor, key: &[u8]) -> Step
+// A step into a map, to the value of a key of any bytes; none where no key is equal.
+#[tactic(auto, unfolding(crate::specs::Steps::key_step))]
+pub fn step_key(s: &[u8], c: Cursor, key: &[u8]) -> Result<Option<Cursor>, Refusal>
     ensures { result ≡ key_step s.now c key.now }
 {
-    match consume_container_header(s, c, TYPE_MAP) {
-        Inside::Of {
-            first,
-            size,
-            charge,
-        } => find_key(s, key, first, size, charge),
-        Inside::Wrong => Step::Refused(MALFORMED),
-    }
+    let inside = consume_container_header(s, c, Kind::Map).ok_or(Refusal::Malformed)?;
+    find_key(s, key, inside)
 }
 
-// A step into an array, to an element counted from the start or, 0 the last, from the end.
-pub fn step_index(s: &[u8], c: Cursor, index: usize, backward: bool) -> Step
+// A step into an array, to an element counted from the start or, 0 the last, from the end; none past the other end.
+#[tactic(auto, unfolding(crate::specs::Steps::index_step))]
+pub fn step_index(
+    s: &[u8],
+    c: Cursor,
+    index: usize,
+    backward: bool,
+) -> Result<Option<Cursor>, Refusal>
     ensures { result ≡ index_step s.now c index backward }
 {
-    match consume_container_header(s, c, TYPE_ARRAY) {
-        Inside::Of {
-            first,
-            size,
-            charge,
-        } => {
-            if index < size {
-                if backward {
-                    element(s, size - 1 - index, first, charge)
-                } else {
-                    element(s, index, first, charge)
-                }
-            } else {
-                Step::Absent
-            }
-        }
-        Inside::Wrong => Step::Refused(MALFORMED),
+    let inside = consume_container_header(s, c, Kind::Array).ok_or(Refusal::Malformed)?;
+    if inside.size <= index {
+        return Ok(None);
+    }
+    if backward {
+        element(s, inside.size - 1 - index, inside.first, inside.charge)
+    } else {
+        element(s, index, inside.first, inside.charge)
     }
 }
