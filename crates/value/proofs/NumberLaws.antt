@@ -1,17 +1,16 @@
--- Laws of signed numbers and of floats.
-use Prim.Native.Nat.{ℕ, ◌*◌, ◌%◌, ◌^◌, ◌≤◌, ◌<◌}
+-- Laws of floats and of numbers in two halves.
+use Prim.Native.Nat.{ℕ, ◌+◌, ◌-◌, ◌*◌, ◌/◌, ◌%◌, ◌^◌, ◌≤◌, ◌<◌}
+use mathlib.Core.List.{List}
+use lib.Pow.{high, low}
+use Rattle.number.specs.Bytes.{be_at}
+use Rattle.number.proofs.ByteLaws.{be_split}
 use mathlib.Core.Path.{◌≡◌, refl, ap, ◌∙◌}
-use mathlib.Core.Bool.{Bool, true, false}
+use mathlib.Core.Bool.{true, false}
 use native.Mathlib.Omega.{arith}
-use borrow.Author.Tests.{le-ltb, lt-ltb, ltb-false}
-use lib.Dec.{ltb}
+use borrow.Author.Tests.{le-ltb, lt-ltb}
 use lib.Ieee
 use lib.Ieee.{Format, nan_bits, ones, hid, top, is_nan, nan, inf, fin}
 use lib.Ieee.Bits.{nan_bits_above}
-use lib.IntN.{negsuc}
-use mir.Syntax.{w32}
-use mir.Val.{to_z}
-use Rattle.value.specs.Numbers.{signed32}
 
 -- bits are a NaN's exactly where they lie, with the sign dropped, above an infinity's
 pub is_nan_lem : (f : Format) (b : ℕ) → ones f * hid f < b % top f → nan_bits f b ≡ true
@@ -27,10 +26,12 @@ nan_only nan e = refl
 nan_only (inf s) e = cc
 nan_only (fin s m x) e = cc
 
--- the upper half of 32 bits is the numbers below zero
-pub signed_word : (v : ℕ) → v < 2 ^ 32 → to_z w32 v ≡ signed32 v
-signed_word v h = go (ltb v 2147483648) refl
-  where
-    go : (b : Bool) → ltb v 2147483648 ≡ b → to_z w32 v ≡ signed32 v
-    go true e = rw e
-    go false e = let l : 2147483648 ≤ v = ltb-false v 2147483648 e in simp (e, lt-ltb v 4294967296 (omega arith)) (ap negsuc (omega arith))
+-- a number of more than 8 bytes, in halves
+wide_split : (s : List ℕ) (p n : ℕ) → 8 < n → be_at s p n ≡ be_at s p (n - 8) * 2 ^ 64 + be_at s (p + (n - 8)) 8
+wide_split s p n h = let k : n ≡ n - 8 + 8 = omega arith in ap (be_at s p) k ∙ be_split s p (n - 8) 8
+
+pub wide_high : (s : List ℕ) (p n : ℕ) → 8 < n → be_at s (p + (n - 8)) 8 < 2 ^ 64 → be_at s p n / 2 ^ 64 ≡ be_at s p (n - 8)
+wide_high s p n h l = rw (wide_split s p n h) (high (be_at s p (n - 8)) 64 l)
+
+pub wide_low : (s : List ℕ) (p n : ℕ) → 8 < n → be_at s (p + (n - 8)) 8 < 2 ^ 64 → be_at s p n % 2 ^ 64 ≡ be_at s (p + (n - 8)) 8
+wide_low s p n h l = rw (wide_split s p n h) (low (be_at s p (n - 8)) 64 l)

@@ -58,6 +58,7 @@ fn float(bits: u32) -> Value
     }
 }
 
+#[tactic(auto, using(crate::proofs::NumberLaws::wide_high, crate::proofs::NumberLaws::wide_low))]
 fn decode_uint128(s: &[u8], size: usize, payload: usize) -> Value
     requires { (size ≤ 16) × (payload + size ≤ length s.now) }
     ensures { result ≡ wide_at s.now payload size }
