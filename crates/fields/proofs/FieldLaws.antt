@@ -3,14 +3,14 @@ use Prim.Native.Nat.{ℕ, zero, suc, ◌+◌, ◌-◌, ◌≤◌, ◌<◌}
 use mathlib.Core.Path.{◌≡◌, refl, sym, ◌∙◌}
 use native.Mathlib.Nat.{zero-add, suc-add}
 use native.Mathlib.Omega.{arith}
-use native.Mathlib.Numerals.{sub-one}
+use native.Mathlib.Numerals.{add-one}
+use Rattle.std.specs.Prelude.{Option, Some, None}
 use Rattle.charge.specs.declared.Charge.{Charge}
 use Rattle.control.specs.declared.Kind.{Kind}
 use Rattle.stored.specs.Stored.{up_to, body_of, Lies}
 use Rattle.stored.proofs.StoredLaws.{lies_up_to}
-use Rattle.fields.specs.Fields.{many}
+use Rattle.fields.specs.Fields.{got, many}
 use Rattle.fields.specs.declared.Got.{Got}
-use Rattle.fields.specs.declared.Got.TheVariants.{Is, Wrong}
 
 -- a number of at most eight bytes
 pub number_lies : {len : ℕ} {k : Kind} {n q : ℕ} (most : ℕ) → Lies len k n q → body_of k n ≡ up_to most n → most ≤ 8 → (n ≤ 8) × (q + n ≤ len)
@@ -18,33 +18,40 @@ number_lies {len} {k} {n} {q} most l e h =
     let t : (n ≤ most) × (q + n ≤ len) = lies_up_to most l e in
     (omega arith, t.1)
 
-module _ (f : ℕ → Charge → Got) where
-  pub many_more : (n v p at : ℕ) (c : Charge) {x : Got} → 0 < n → f at c ≡ x → many f n (Is v p at c) ≡ many f (n - 1) x
+module _ (f : ℕ → Charge → Option Got) where
+  many_one : (m : ℕ) (x : Got) → many f (suc m) (Some x) ≡ many f m (f x.next x.charge)
   unfolding many
-  many_more zero v p at c h e = absurd (omega arith)
-  many_more (suc n) v p at c h e = rw (e, sub-one)
+  many_one m x = refl
 
-  pub many_wrong : (n : ℕ) → many f n Wrong ≡ Wrong
+  many_suc : (n m : ℕ) (x : Got) {y : Option Got} → n ≡ m + 1 → f x.next x.charge ≡ y → many f n (Some x) ≡ many f m y
+  many_suc n m x h e = rw (h, add-one, many_one, e)
+
+  pub many_wrong : (n : ℕ) → many f n None ≡ None
   unfolding many
   many_wrong zero = refl
   many_wrong (suc n) = refl
 
-  pub many_stop : (n v p at : ℕ) (c : Charge) → 0 < n → f at c ≡ Wrong → many f n (Is v p at c) ≡ Wrong
-  many_stop n v p at c h e = many_more n v p at c h e ∙ many_wrong (n - 1)
+  -- of n values, i were read
+  module _ (n i : ℕ) (x : Got) (h : i < n) where
+    pub many_more : {y : Got} → f x.next x.charge ≡ Some y → many f (n - i) (Some x) ≡ many f (n - (i + 1)) (Some y)
+    many_more e = many_suc (n - i) (n - (i + 1)) x (omega arith) e
 
-  pub many_none : (n : ℕ) (x : Got) → n ≤ 0 → many f n x ≡ x
+    pub many_stop : f x.next x.charge ≡ None → many f (n - i) (Some x) ≡ None
+    many_stop e = many_suc (n - i) (n - (i + 1)) x (omega arith) e ∙ many_wrong (n - (i + 1))
+
+  pub many_none : (n : ℕ) (x : Option Got) → n ≤ 0 → many f n x ≡ x
   unfolding many
   many_none n x h = let e : n ≡ 0 = omega arith in rw e
 
   -- what was read before does not matter to what is read next
-  pub many_any : (n v p v' p' at : ℕ) (c : Charge) → 0 < n → many f n (Is v p at c) ≡ many f n (Is v' p' at c)
+  pub many_any : (n v p v' p' at : ℕ) (c : Charge) → 0 < n → many f n (Some (got v p at c)) ≡ many f n (Some (got v' p' at c))
   unfolding many
   many_any zero v p v' p' at c h = absurd (omega arith)
   many_any (suc n) v p v' p' at c h = refl
 
   -- a run of values is one run, and another from where it ended
-  pub many_join : (m n : ℕ) (x : Got) → many f (m + n) x ≡ many f n (many f m x)
+  pub many_join : (m n : ℕ) (x : Option Got) → many f (m + n) x ≡ many f n (many f m x)
   unfolding many
   many_join zero n x = rw zero-add
-  many_join (suc m) n (Is v p at c) = rw suc-add (many_join m n (f at c))
-  many_join (suc m) n Wrong = rw suc-add (sym (many_wrong n))
+  many_join (suc m) n (Some x) = rw suc-add (many_join m n (f x.next x.charge))
+  many_join (suc m) n None = rw suc-add (sym (many_wrong n))
