@@ -15,7 +15,12 @@ use lib.Count.{ones, ones_step, under, count_trailing_zeros}
 use lib.ListN.{length, drop, get_or, length-set, replicate, get_or-replicate, get_or-append, length-append, length-replicate}
 use lib.Seq.{get_or-set_same, get_or-set_other, drop-set-lt}
 use borrow.Author.Tests.{eq-eqb, ne_eqb}
-use Rattle.marks.specs.Marks.{free, recorded, active, bit, put, lower, upper, state_at, set_state, marked, next_marked, size_of, record_each, contains, distinct, Below}
+use denote.Enum.Bare.{sameb}
+use denote.Enum.Declared.{tag_of}
+use Rattle.marks.specs.contracts.Mark.{the_type}
+use Rattle.marks.specs.declared.Mark.{Mark}
+use Rattle.marks.specs.declared.Mark.TheVariants as mark
+use Rattle.marks.specs.Marks.{number_of, free, recorded, active, bit, put, lower, upper, state_at, set_state, marked, next_marked, size_of, record_each, contains, distinct, Below}
 
 -- ---- one word
 
@@ -430,3 +435,15 @@ pub count_cleared : (n k : ℕ) (rest ts : List ℕ) → k * 2 ≤ n → Below (
 count_cleared n k rest ts h b =
     let long : length (replicate n 0 ++ rest) ≡ n + length rest = simp (length-append, length-replicate) in
     size_each (replicate n 0 ++ rest) ts (k * 64) (omega arith) (λ t l. state_cleared n rest t (omega arith)) b
+
+-- ---- marks by their numbers
+
+tag_number : (m : Mark) → tag_of the_type m ≡ number_of m
+tag_number mark.Free = refl
+tag_number mark.Recorded = refl
+tag_number mark.Validated = refl
+tag_number mark.Active = refl
+
+-- what `==` says of two marks is what their numbers say
+pub same_mark : (a b : Mark) → sameb the_type a b ≡ eqb (number_of a) (number_of b)
+same_mark a b = ap₂ eqb (tag_number a) (tag_number b)

@@ -10,11 +10,11 @@ use lib.Dec.{eqb}
 use lib.ListN.{length, replicate, length-append, length-replicate}
 use Rattle.marks.specs.Marks.{free, recorded, active, validated, state_at, set_state, record_each, contains, Below}
 use Rattle.marks.proofs.MarkLaws.{length_state, state_same, state_other, length_each, state_each, state_cleared}
-use Rattle.graph.specs.Graph.{Res, res, verify_at, skip_at, levels}
+use Rattle.std.specs.Prelude.{Option, Some, None}
+use Rattle.graph.specs.Graph.{skipped, Res, res, verify_at, skip_at, levels}
 use Rattle.graph.specs.Sets.{Set, none, insert, remove, Sets, on_sets}
 use Rattle.graph.specs.Words.{needed, on_words}
 use Rattle.graph.specs.declared.Skipped.{Skipped}
-use Rattle.graph.specs.declared.Skipped.TheVariants.{To, Refused}
 use Rattle.graph.proofs.WalkLaws.{target_validated}
 use Rattle.sweep.specs.Sweep.{onward, sweep_at, allowance, data_at, metadata_at, accepts, start, data_accepted, metadata_accepted}
 use Rattle.sweep.proofs.SweepLaws.{sweep_passed, sweep_verified}
@@ -104,17 +104,17 @@ module _ (s : List ℕ) where
       let h = verify_sim on_words on_sets s (Stands (length s)) (alike (length s)) t w ws x r.stands in
       record {
         same = h.same;
-        holds = λ next w' e. record {
-          stands = h.holds next w' e;
-          idle = λ u. (verify_keeps on_sets s Keeps around_sets t w next w' x _ (ap (λ (a : Skipped). res a (verify_at on_sets s t w x).sets) e)).active u ∙ r.idle u;
+        holds = λ p e. record {
+          stands = h.holds p e;
+          idle = λ u. (verify_keeps on_sets s Keeps around_sets t w p.next p.work x _ (ap (λ (a : Option Skipped). res a (verify_at on_sets s t w x).sets) e)).active u ∙ r.idle u;
         };
       }
 
   onward_sim : (f : ℕ → List ℕ → Res (List ℕ)) (g : ℕ → Sets → Res Sets) → ((w : ℕ) (ws : List ℕ) (x : Sets) → R ws x → Sim R (f w ws) (g w x))
-      → (a : Skipped) (ws : List ℕ) (x : Sets) → ((next w : ℕ) → a ≡ To next w → R ws x) → Sim R (onward f a ws) (onward g a x)
+      → (a : Option Skipped) (ws : List ℕ) (x : Sets) → ((p : Skipped) → a ≡ Some p → R ws x) → Sim R (onward f a ws) (onward g a x)
   unfolding onward
-  onward_sim f g each (To next w) ws x r = each w ws x (r next w refl)
-  onward_sim f g each Refused ws x r = refused_sim R ws x
+  onward_sim f g each (Some p) ws x r = each p.work ws x (r p refl)
+  onward_sim f g each None ws x r = refused_sim R ws x
 
   -- a place that is validated already
   seen : (n t w : ℕ) (x : Sets) → t < length s → x.validated t ≡ true
@@ -149,7 +149,7 @@ module _ (s : List ℕ) where
   sweep_sim : (n t w : ℕ) (ws : List ℕ) (x : Sets) → t + n ≡ length s → R ws x
       → Sim R (sweep_at on_words (verify_at on_words s) n t w ws) (sweep_at on_sets (verify_at on_sets s) n t w x)
   unfolding sweep_at
-  sweep_sim zero t w ws x h r = to_sim R t w ws x r
+  sweep_sim zero t w ws x h r = to_sim R (skipped t w) ws x r
   sweep_sim (suc n) t w ws x h r = turn_sim n t w ws x (omega arith) r (λ w' ws' x' r'. sweep_sim n (t + 1) w' ws' x' (omega arith) r')
 
   module _ (set : Set) (ws : List ℕ) (long : needed (length s) ≤ length ws)

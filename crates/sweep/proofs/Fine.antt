@@ -8,11 +8,12 @@ use native.Mathlib.Decide.{ℕ_discrete}
 use native.Mathlib.Nat.{not-suc-le-zero, le_of_suc-le-suc}
 use native.Mathlib.Omega.{arith}
 use lib.ListN.{length}
+use Rattle.std.specs.Prelude.{Option, Some, None}
 use Rattle.graph.specs.Visit.{visit_at}
 use Rattle.graph.specs.Graph.{levels}
 use Rattle.graph.specs.Sets.{Set, insert, Sets, on_sets}
 use Rattle.graph.specs.declared.Visit.{Visit}
-use Rattle.graph.specs.declared.Visit.TheVariants.{Leaf, Children, Pointer, Refused}
+use Rattle.graph.specs.declared.Visit.TheVariants.{Leaf, Children, Pointer}
 use Rattle.sweep.specs.Sound.{Follows, Met, Good}
 use Rattle.sweep.proofs.Walked.{Chain, Entered, Behind, Holds}
 use Rattle.sweep.proofs.Kept.{inserted, insert_other, Keeps, around_sets}
@@ -27,21 +28,21 @@ follows_more P Q h zero p next e = e
 follows_more P Q h (suc n) p next e = (e.0, h p e.0 e.1, follows_more P Q h n e.0 next e.2)
 
 module _ (f g : Set) (more : More f g) where
-  met_more : (P Q : ℕ → ℕ → Type 0) → ((p q : ℕ) → P p q → Q p q) → (b : Bool) (v : Visit) (next : ℕ) → Met b P f v next → Met true Q g v next
+  met_more : (P Q : ℕ → ℕ → Type 0) → ((p q : ℕ) → P p q → Q p q) → (b : Bool) (v : Option Visit) (next : ℕ) → Met b P f v next → Met true Q g v next
   unfolding Met
-  met_more P Q h b (Leaf end work) next e = e
-  met_more P Q h true (Children n first work) next e = follows_more P Q h n first next e
-  met_more P Q h false (Children n first work) next e = absurd e
-  met_more P Q h true (Pointer t end work) next e = (more t e.0, e.1)
-  met_more P Q h false (Pointer t end work) next e = absurd e
-  met_more P Q h b Refused next e = e
+  met_more P Q h b (Some (Leaf end work)) next e = e
+  met_more P Q h true (Some (Children n first work)) next e = follows_more P Q h n first next e
+  met_more P Q h false (Some (Children n first work)) next e = absurd e
+  met_more P Q h true (Some (Pointer t end work)) next e = (more t e.0, e.1)
+  met_more P Q h false (Some (Pointer t end work)) next e = absurd e
+  met_more P Q h b None next e = e
 
-  met_flat : (P Q : ℕ → ℕ → Type 0) (v : Visit) (next : ℕ) → Met false P f v next → Met false Q g v next
+  met_flat : (P Q : ℕ → ℕ → Type 0) (v : Option Visit) (next : ℕ) → Met false P f v next → Met false Q g v next
   unfolding Met
-  met_flat P Q (Leaf end work) next e = e
-  met_flat P Q (Children n first work) next e = e
-  met_flat P Q (Pointer t end work) next e = e
-  met_flat P Q Refused next e = e
+  met_flat P Q (Some (Leaf end work)) next e = e
+  met_flat P Q (Some (Children n first work)) next e = e
+  met_flat P Q (Some (Pointer t end work)) next e = e
+  met_flat P Q None next e = e
 
   good_more : (s : List ℕ) (k l p next : ℕ) → k ≤ l → Good s f k p next → Good s g l p next
   unfolding Good
@@ -61,16 +62,16 @@ pub record Fine (s : List ℕ) (l p next : ℕ) (x y : Sets) : Type 0 where
   pub sound : l ≤ levels → AllGood s x → AllGood s y
 
 module _ (s : List ℕ) where
-  good_leaf : (f : Set) (l p w next w' : ℕ) → visit_at s p w ≡ Leaf next w' → Good s f l p next
+  good_leaf : (f : Set) (l p w next w' : ℕ) → visit_at s p w ≡ Some (Leaf next w') → Good s f l p next
   unfolding Good Met
   good_leaf f zero p w next w' e = (w, rw e refl)
   good_leaf f (suc l) p w next w' e = (w, rw e refl)
 
-  good_children : (f : Set) (l p w n first w' next : ℕ) → visit_at s p w ≡ Children n first w' → Follows (Good s f l) n first next → Good s f (suc l) p next
+  good_children : (f : Set) (l p w n first w' next : ℕ) → visit_at s p w ≡ Some (Children n first w') → Follows (Good s f l) n first next → Good s f (suc l) p next
   unfolding Good Met
   good_children f l p w n first w' next e c = (w, rw e c)
 
-  good_pointer : (f : Set) (l p w t next w' : ℕ) → visit_at s p w ≡ Pointer t next w' → f t ≡ true → Good s f (suc l) p next
+  good_pointer : (f : Set) (l p w t next w' : ℕ) → visit_at s p w ≡ Some (Pointer t next w') → f t ≡ true → Good s f (suc l) p next
   unfolding Good Met
   good_pointer f l p w t next w' e g = (w, rw e (g, refl))
 

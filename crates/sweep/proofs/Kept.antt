@@ -8,9 +8,9 @@ use Prim.Native.Nat.{ℕ, zero, suc}
 use native.Mathlib.Decide.{ℕ_discrete}
 use borrow.Author.Tests.{eq-eqb, ne_eqb}
 use lib.ListN.{length}
-use Rattle.graph.specs.Graph.{Marks, res, verify_at}
+use Rattle.std.specs.Prelude.{Some}
+use Rattle.graph.specs.Graph.{skipped, Marks, res, verify_at}
 use Rattle.graph.specs.Sets.{Set, insert, remove, Sets, on_sets}
-use Rattle.graph.specs.declared.Skipped.TheVariants.{To}
 use Rattle.sweep.proofs.Walked.{Chain, Behind, Holds, verify_walked}
 
 pub inserted : (t : ℕ) (f : Set) → insert t f t ≡ true
@@ -50,7 +50,7 @@ module _ {S : Type 0} (m : Marks S) (s : List ℕ) (K : S → S → Type 0) (k :
         pointer = λ l p w t next w' x y e b. behind_keeps (length s) t x y b;
       }
 
-  pub verify_keeps : (t w q w' : ℕ) (x y : S) → verify_at m s t w x ≡ res (To q w') y → K x y
+  pub verify_keeps : (t w q w' : ℕ) (x y : S) → verify_at m s t w x ≡ res (Some (skipped q w')) y → K x y
   verify_keeps t w q w' x y e = behind_keeps (length s) t x y (verify_walked m s (λ _ _ _ x y. K x y) keeps t w q w' x y e)
 
 -- from the sets before a walk to those after it

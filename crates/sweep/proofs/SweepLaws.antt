@@ -3,9 +3,9 @@ use mathlib.Core.Path.{◌≡◌, sym, ap, ◌∙◌}
 use mathlib.Core.Bool.{true, false}
 use Prim.Native.Nat.{ℕ, zero, suc, ◌+◌, ◌-◌, ◌<◌, ◌≤◌}
 use native.Mathlib.Omega.{arith}
-use Rattle.graph.specs.Graph.{Marks, Res, res, Walk}
+use Rattle.std.specs.Prelude.{Option, Some, None}
+use Rattle.graph.specs.Graph.{skipped, Marks, Res, res, Walk}
 use Rattle.graph.specs.declared.Skipped.{Skipped}
-use Rattle.graph.specs.declared.Skipped.TheVariants.{To, Refused}
 use Rattle.sweep.specs.Sweep.{onward, sweep_at}
 
 module _ {S : Type 0} (m : Marks S) (verify : Walk S) (n t w : ℕ) (x : S) where
@@ -27,20 +27,20 @@ module _ {S : Type 0} (m : Marks S) (verify : Walk S) (n t w : ℕ) (x : S) (X :
   pub sweep_pass : m.is_recorded x t ≡ false → sweep_at m verify (n - (t + 1)) (t + 1) w x ≡ X
   sweep_pass e = sym (sweep_passed m verify (n - (t + 1)) t w x e) ∙ opened
 
-  module _ (e : m.is_recorded x t ≡ true) (r : Skipped) (y : S) (verified : res r y ≡ verify t w x) where
-    walked : onward (sweep_at m verify (n - (t + 1)) (t + 1)) r y ≡ X
-    walked = ap (λ (k : Res S). onward (sweep_at m verify (n - (t + 1)) (t + 1)) k.answer k.sets) verified
+  module _ (e : m.is_recorded x t ≡ true) (y : S) where
+    walked : (r : Option Skipped) → res r y ≡ verify t w x → onward (sweep_at m verify (n - (t + 1)) (t + 1)) r y ≡ X
+    walked r verified = ap (λ (k : Res S). onward (sweep_at m verify (n - (t + 1)) (t + 1)) k.answer k.sets) verified
         ∙ sym (sweep_verified m verify (n - (t + 1)) t w x e) ∙ opened
 
-    pub sweep_turn : (q u : ℕ) → r ≡ To q u → sweep_at m verify (n - (t + 1)) (t + 1) u y ≡ X
+    pub sweep_turn : (q : Skipped) → res (Some q) y ≡ verify t w x → sweep_at m verify (n - (t + 1)) (t + 1) q.work y ≡ X
     unfolding onward
-    sweep_turn q u a = ap (λ (k : Skipped). onward (sweep_at m verify (n - (t + 1)) (t + 1)) k y) (sym a) ∙ walked
+    sweep_turn q verified = walked (Some q) verified
 
-    pub sweep_stop : r ≡ Refused → res Refused y ≡ X
+    pub sweep_stop : res None y ≡ verify t w x → res None y ≡ X
     unfolding onward
-    sweep_stop a = ap (λ (k : Skipped). onward (sweep_at m verify (n - (t + 1)) (t + 1)) k y) (sym a) ∙ walked
+    sweep_stop verified = walked None verified
 
-pub sweep_end : {S : Type 0} (m : Marks S) (verify : Walk S) (n t w : ℕ) (x : S) (X : Res S) → n ≤ t → sweep_at m verify (n - t) t w x ≡ X → res (To t w) x ≡ X
+pub sweep_end : {S : Type 0} (m : Marks S) (verify : Walk S) (n t w : ℕ) (x : S) (X : Res S) → n ≤ t → sweep_at m verify (n - t) t w x ≡ X → res (Some (skipped t w)) x ≡ X
 unfolding sweep_at
 sweep_end m verify n t w x X h e =
     let k : 0 ≡ n - t = omega arith in

@@ -8,11 +8,11 @@ use native.Mathlib.Decide.{ℕ_discrete}
 use native.Mathlib.Omega.{arith}
 use lib.ListN.{length}
 use Rattle.marks.specs.Marks.{free, recorded, validated, state_at}
-use Rattle.graph.specs.Graph.{Res, res, verify_at, levels}
+use Rattle.std.specs.Prelude.{Option, Some, None}
+use Rattle.graph.specs.Graph.{skipped, Res, res, verify_at, levels}
 use Rattle.graph.specs.Sets.{Set, Sets, none, on_sets}
 use Rattle.graph.specs.Words.{needed, on_words}
 use Rattle.graph.specs.declared.Skipped.{Skipped}
-use Rattle.graph.specs.declared.Skipped.TheVariants.{To, Refused}
 use Rattle.sweep.specs.Sweep.{onward, sweep_at, allowance, data_at, metadata_at, accepts, start, data_accepted, metadata_accepted}
 use Rattle.sweep.specs.Sound.{Sound}
 use Rattle.sweep.proofs.SweepLaws.{sweep_passed, sweep_verified}
@@ -22,16 +22,16 @@ use Rattle.sweep.proofs.Kept.{Keeps, around_sets}
 use Rattle.sweep.proofs.Fine.{AllGood, Fine, fine, Reached, reached}
 use Rattle.sweep.proofs.Agree.{state_of, data_sim}
 
-to_place : (r : Res Sets) → accepts r.answer ≡ true → (next : ℕ) × (w : ℕ) × (r ≡ res (To next w) r.sets)
+to_place : (r : Res Sets) → accepts r.answer ≡ true → (next : ℕ) × (w : ℕ) × (r ≡ res (Some (skipped next w)) r.sets)
 to_place r e = go r.answer refl e
   where
-    go : (a : Skipped) → r.answer ≡ a → accepts a ≡ true → (next : ℕ) × (w : ℕ) × (r ≡ res (To next w) r.sets)
-    go (To next w) f g = (next, w, ap (λ (a : Skipped). res a r.sets) f)
-    go Refused f g = absurd (let z : ◌≡◌ {A = ℕ} 0 1 = cc in let w : ⊥ = omega arith in w)
+    go : (a : Option Skipped) → r.answer ≡ a → accepts a ≡ true → (next : ℕ) × (w : ℕ) × (r ≡ res (Some (skipped next w)) r.sets)
+    go (Some p) f g = (p.next, p.work, ap (λ (a : Option Skipped). res a r.sets) f)
+    go None f g = absurd (let w : ⊥ = cc in w)
 
 module _ (s : List ℕ) where
   -- a value that was verified
-  verified : (t w q w' : ℕ) (x y : Sets) → verify_at on_sets s t w x ≡ res (To q w') y → Reached s levels t x y
+  verified : (t w q w' : ℕ) (x y : Sets) → verify_at on_sets s t w x ≡ res (Some (skipped q w')) y → Reached s levels t x y
   verified t w q w' x y e = reached s levels t x y (verify_walked on_sets s (Fine s) (fine s) t w q w' x y e)
 
   -- n places from t on
@@ -62,21 +62,21 @@ module _ (s : List ℕ) where
         sound = λ a. r.sound (v.sound (omega arith) a);
       }
 
-  onwards : (n t w next w' : ℕ) (x y : Sets) → ((w₁ : ℕ) (z : Sets) → sweep_at on_sets (verify_at on_sets s) n (t + 1) w₁ z ≡ res (To next w') y → Swept n (t + 1) z y)
-      → (a : Skipped) (z : Sets) → verify_at on_sets s t w x ≡ res a z → onward (sweep_at on_sets (verify_at on_sets s) n (t + 1)) a z ≡ res (To next w') y → Swept (suc n) t x y
+  onwards : (n t w next w' : ℕ) (x y : Sets) → ((w₁ : ℕ) (z : Sets) → sweep_at on_sets (verify_at on_sets s) n (t + 1) w₁ z ≡ res (Some (skipped next w')) y → Swept n (t + 1) z y)
+      → (a : Option Skipped) (z : Sets) → verify_at on_sets s t w x ≡ res a z → onward (sweep_at on_sets (verify_at on_sets s) n (t + 1)) a z ≡ res (Some (skipped next w')) y → Swept (suc n) t x y
   unfolding onward
-  onwards n t w next w' x y rest (To q u) z e f = turned n t x z y (verified t w q u x z e) (rest u z f)
-  onwards n t w next w' x y rest Refused z e f = never f
+  onwards n t w next w' x y rest (Some p) z e f = turned n t x z y (verified t w p.next p.work x z e) (rest p.work z f)
+  onwards n t w next w' x y rest None z e f = never f
 
-  turn : (n t w next w' : ℕ) (x y : Sets) → ((w₁ : ℕ) (z : Sets) → sweep_at on_sets (verify_at on_sets s) n (t + 1) w₁ z ≡ res (To next w') y → Swept n (t + 1) z y)
-      → sweep_at on_sets (verify_at on_sets s) (suc n) t w x ≡ res (To next w') y → Swept (suc n) t x y
+  turn : (n t w next w' : ℕ) (x y : Sets) → ((w₁ : ℕ) (z : Sets) → sweep_at on_sets (verify_at on_sets s) n (t + 1) w₁ z ≡ res (Some (skipped next w')) y → Swept n (t + 1) z y)
+      → sweep_at on_sets (verify_at on_sets s) (suc n) t w x ≡ res (Some (skipped next w')) y → Swept (suc n) t x y
   turn n t w next w' x y rest e =
       ⊎_elim
       (λ g. onwards n t w next w' x y rest _ _ refl (sym (sweep_verified on_sets (verify_at on_sets s) n t w x g) ∙ e))
       (λ g. passed n t x y g (rest w x (sym (sweep_passed on_sets (verify_at on_sets s) n t w x g) ∙ e)))
       (is_or_not (x.recorded t))
 
-  swept : (n t w next w' : ℕ) (x y : Sets) → sweep_at on_sets (verify_at on_sets s) n t w x ≡ res (To next w') y → Swept n t x y
+  swept : (n t w next w' : ℕ) (x y : Sets) → sweep_at on_sets (verify_at on_sets s) n t w x ≡ res (Some (skipped next w')) y → Swept n t x y
   unfolding sweep_at
   swept zero t w next w' x y e =
       subst (λ (z : Sets). Swept zero t x z) (same_place e).1
@@ -118,8 +118,8 @@ module _ (s : List ℕ) where
       let sim = data_sim s set ws long states in
       let g : accepts (data_at on_sets s (start set)).answer ≡ true = ap accepts (sym sim.same) ∙ e in
       let r = to_place (data_at on_sets s (start set)) g in
-      let a : (data_at on_sets s (start set)).answer ≡ To r.0 r.1 = ap (λ (k : Res Sets). k.answer) r.2 in
+      let a : (data_at on_sets s (start set)).answer ≡ Some (skipped r.0 r.1) = ap (λ (k : Res Sets). k.answer) r.2 in
       let k = swept (length s) 0 (allowance s) r.0 r.1 (start set) (data_at on_sets s (start set)).sets r.2 in
       let v : (data_at on_sets s (start set)).sets.validated t ≡ true = k.has t (omega arith) (omega arith) f in
-      (sim.holds r.0 r.1 a).stands.states t h
+      (sim.holds (skipped r.0 r.1) a).stands.states t h
       ∙ ap (λ (b : Bool). state_of b ((data_at on_sets s (start set)).sets.active t) ((data_at on_sets s (start set)).sets.recorded t)) v

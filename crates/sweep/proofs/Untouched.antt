@@ -8,13 +8,13 @@ use native.Mathlib.Omega.{arith}
 use lib.ListN.{length, drop}
 use Rattle.marks.specs.Marks.{active, validated, set_state}
 use Rattle.marks.proofs.MarkLaws.{drop_state}
+use Rattle.std.specs.Prelude.{Option, Some, None}
 use Rattle.graph.specs.Visit.{visit_at}
-use Rattle.graph.specs.Graph.{Marks, Res, res, Walk, leave, target_at, many_at, past, on_visit, skip_at, verify_at, levels}
+use Rattle.graph.specs.Graph.{skipped, Marks, Res, res, Walk, leave, target_at, many_at, past, on_visit, skip_at, verify_at, levels}
 use Rattle.graph.specs.Words.{needed, on_words}
 use Rattle.graph.specs.declared.Visit.{Visit}
 use Rattle.graph.specs.declared.Visit.TheVariants as visit
 use Rattle.graph.specs.declared.Skipped.{Skipped}
-use Rattle.graph.specs.declared.Skipped.TheVariants.{To, Refused}
 use Rattle.graph.proofs.WalkLaws.{target_outside, target_validated, target_cycle, target_fresh}
 use Rattle.sweep.specs.Sweep.{onward, sweep_at, allowance, data_at, metadata_at}
 use Rattle.sweep.proofs.SweepLaws.{sweep_passed, sweep_verified}
@@ -26,10 +26,10 @@ module _ {S : Type 0} (m : Marks S) (len : ℕ) (P : S → Type 0) (entered : (x
   abbrev Keeping : Walk S → Type 0
   Keeping walk = (p w : ℕ) (x : S) → P x → P (walk p w x).sets
 
-  leave_keeps : (t : ℕ) → t < len → (a : Skipped) (x : S) → P x → P (leave m t a x).sets
+  leave_keeps : (t : ℕ) → t < len → (a : Option Skipped) (x : S) → P x → P (leave m t a x).sets
   unfolding leave
-  leave_keeps t h (To next w) x k = left x t h k
-  leave_keeps t h Refused x k = k
+  leave_keeps t h (Some p) x k = left x t h k
+  leave_keeps t h None x k = k
 
   module _ (walk : Walk S) (ih : Keeping walk) where
     target_keeps : Keeping (target_at m walk len)
@@ -47,40 +47,40 @@ module _ {S : Type 0} (m : Marks S) (len : ℕ) (P : S → Type 0) (entered : (x
         (λ h. rw (← target_outside m walk len t w x h) k)
         (lt_or_le t len)
 
-    many_keeps : (n : ℕ) (a : Skipped) (x : S) → P x → P (many_at walk n a x).sets
+    many_keeps : (n : ℕ) (a : Option Skipped) (x : S) → P x → P (many_at walk n a x).sets
     unfolding many_at
     many_keeps zero a x k = k
-    many_keeps (suc n) (To p w) x k = many_keeps n _ _ (ih p w x k)
-    many_keeps (suc n) Refused x k = k
+    many_keeps (suc n) (Some p) x k = many_keeps n _ _ (ih p.next p.work x k)
+    many_keeps (suc n) None x k = k
 
-    past_keeps : (next : ℕ) (a : Skipped) (x : S) → P x → P (past next a x).sets
+    past_keeps : (next : ℕ) (a : Option Skipped) (x : S) → P x → P (past next a x).sets
     unfolding past
-    past_keeps next (To q w) x k = k
-    past_keeps next Refused x k = k
+    past_keeps next (Some p) x k = k
+    past_keeps next None x k = k
 
-    visit_keeps : (deeper : Bool) (v : Visit) (x : S) → P x → P (on_visit m deeper walk len v x).sets
+    visit_keeps : (deeper : Bool) (v : Option Visit) (x : S) → P x → P (on_visit m deeper walk len v x).sets
     unfolding on_visit
-    visit_keeps deeper (visit.Leaf next w) x k = k
-    visit_keeps true (visit.Children n first w) x k = many_keeps n (To first w) x k
-    visit_keeps false (visit.Children n first w) x k = k
-    visit_keeps true (visit.Pointer t next w) x k = past_keeps next (target_at m walk len t w x).answer (target_at m walk len t w x).sets (target_keeps t w x k)
-    visit_keeps false (visit.Pointer t next w) x k = k
-    visit_keeps deeper visit.Refused x k = k
+    visit_keeps deeper (Some (visit.Leaf next w)) x k = k
+    visit_keeps true (Some (visit.Children n first w)) x k = many_keeps n (Some (skipped first w)) x k
+    visit_keeps false (Some (visit.Children n first w)) x k = k
+    visit_keeps true (Some (visit.Pointer t next w)) x k = past_keeps next (target_at m walk len t w x).answer (target_at m walk len t w x).sets (target_keeps t w x k)
+    visit_keeps false (Some (visit.Pointer t next w)) x k = k
+    visit_keeps deeper None x k = k
 
 module _ {S : Type 0} (m : Marks S) (s : List ℕ) (P : S → Type 0) (entered : (x : S) (t : ℕ) → t < length s → P x → P (m.activate x t))
     (left : (x : S) (t : ℕ) → t < length s → P x → P (m.validate x t)) where
   skip_keeps : (l p w : ℕ) (x : S) → P x → P (skip_at m l s p w x).sets
   unfolding skip_at
-  skip_keeps zero p w x k = visit_keeps m (length s) P entered left (λ _ _ y. res Refused y) (λ _ _ y j. j) false (visit_at s p w) x k
+  skip_keeps zero p w x k = visit_keeps m (length s) P entered left (λ _ _ y. res None y) (λ _ _ y j. j) false (visit_at s p w) x k
   skip_keeps (suc l) p w x k = visit_keeps m (length s) P entered left (skip_at m l s) (skip_keeps l) true (visit_at s p w) x k
 
   verify_keeps : (t w : ℕ) (x : S) → P x → P (verify_at m s t w x).sets
   verify_keeps t w x k = target_keeps m (length s) P entered left (skip_at m levels s) (skip_keeps levels) t w x k
 
-  onward_keeps : (rest : ℕ → S → Res S) → ((w : ℕ) (x : S) → P x → P (rest w x).sets) → (a : Skipped) (x : S) → P x → P (onward rest a x).sets
+  onward_keeps : (rest : ℕ → S → Res S) → ((w : ℕ) (x : S) → P x → P (rest w x).sets) → (a : Option Skipped) (x : S) → P x → P (onward rest a x).sets
   unfolding onward
-  onward_keeps rest each (To next w) x k = each w x k
-  onward_keeps rest each Refused x k = k
+  onward_keeps rest each (Some p) x k = each p.work x k
+  onward_keeps rest each None x k = k
 
   turn_keeps : (n t w : ℕ) (x : S) → P x → ((w' : ℕ) (y : S) → P y → P (sweep_at m (verify_at m s) n (t + 1) w' y).sets) → P (sweep_at m (verify_at m s) (suc n) t w x).sets
   turn_keeps n t w x k rest =

@@ -1,19 +1,18 @@
 -- The graphs of whole sections: `verify_data_section`, and the first value of the metadata.
-use Rattle.std.specs.Prelude.{ℕ, zero, suc, ◌+◌, ◌*◌, List, Bool, true, false, cond, length}
-use Rattle.graph.specs.Graph.{Marks, Res, res, Walk, verify_at}
+use Rattle.std.specs.Prelude.{ℕ, zero, suc, ◌+◌, ◌*◌, List, Option, Some, None, Bool, true, false, cond, length}
+use Rattle.graph.specs.Graph.{Marks, Res, res, Walk, skipped, verify_at}
 use Rattle.graph.specs.Sets.{Set, Sets, none, on_sets}
 use Rattle.graph.specs.declared.Skipped.{Skipped}
-use Rattle.graph.specs.declared.Skipped.TheVariants.{To, Refused}
 
 -- what follows a place that was verified
-unfoldable pub onward : {S : Type 0} → (ℕ → S → Res S) → Skipped → S → Res S
-onward rest (To next work) x = rest work x
-onward rest Refused x = res Refused x
+unfoldable pub onward : {S : Type 0} → (ℕ → S → Res S) → Option Skipped → S → Res S
+onward rest (Some p) x = rest p.work x
+onward rest None x = res None x
 
 -- the places from t on, n of them, lowest first: each that is recorded is verified
 unfoldable pub sweep_at : {S : Type 0} → Marks S → Walk S → ℕ → ℕ → ℕ → S → Res S
 unfolding onward
-sweep_at m verify zero t work x = res (To t work) x
+sweep_at m verify zero t work x = res (Some (skipped t work)) x
 sweep_at {S} m verify (suc n) t work x =
     let r : Res S = verify t work x in
     cond (m.is_recorded x t) (onward (sweep_at m verify n (t + 1)) r.answer r.sets) (sweep_at m verify n (t + 1) work x)
@@ -30,9 +29,9 @@ data_at m s x = sweep_at m (verify_at m s) (length s) 0 (allowance s) x
 abbrev pub metadata_at : {S : Type 0} → Marks S → List ℕ → S → Res S
 metadata_at m s x = verify_at m s 0 (allowance s) x
 
-abbrev pub accepts : Skipped → Bool
-accepts (To next work) = true
-accepts Refused = false
+abbrev pub accepts : Option Skipped → Bool
+accepts (Some p) = true
+accepts None = false
 
 -- before anything is verified: the places that the tree recorded
 abbrev pub start : Set → Sets
