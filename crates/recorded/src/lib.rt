@@ -4,31 +4,56 @@
 
 pub mod tally;
 
-ghost use Rattle.std.specs.Prelude.{◌≡◌, ◌≤◌, IfOk, length};
+ghost use Rattle.std.specs.Prelude.{◌≡◌, ◌≤◌, ◌<◌, IfOk, IfSome, length};
 
-use number::be;
+use refusal::Refusal;
 use std::io;
 use std::io::Read;
+use tally::{Row, Tally};
 
 const HEADER: usize = 26;
 
-// An entry, with the places of the table where its steps, its content and the next entry begin.
-#[derive(Clone, Copy)]
-pub struct Entry {
-    pub question: usize,
-    pub place: usize,
-    pub kind: usize,
+// The question of an entry that is none: it brings an image, which the rows after it are about.
+const IMAGE: u8 = 0;
+
+// The kind of a refused answer. Its number is the lower of the two.
+const REFUSED: u8 = 0;
+
+// An answer as a table has it: its kind, and two numbers.
+#[derive(Clone, Copy, PartialEq, Eq)]
+pub struct Answer {
+    pub kind: u8,
     pub high: u64,
     pub low: u64,
-    pub steps: usize,
-    pub content: usize,
-    pub next: usize,
 }
 
+// An entry: what its header says, what was asked with, and its content.
 #[derive(Clone, Copy)]
-pub enum Found {
-    Is(Entry),
-    Broken,
+pub struct Entry<'a> {
+    pub question: u8,
+    pub place: usize,
+    pub answer: Answer,
+    pub asked: &'a [u8],
+    pub content: &'a [u8],
+}
+
+impl Answer {
+    pub fn refused(why: Refusal) -> Answer {
+        Answer {
+            kind: REFUSED,
+            high: 0,
+            low: u64::from(why.number()),
+        }
+    }
+
+    // The slot that it is counted in: refused ones are counted by their number.
+    pub fn slot(&self) -> usize {
+        if self.kind == REFUSED {
+            self.low as usize
+        } else {
+            usize::from(self.kind)
+        }
+    }
 }
 
 // Room for a table.
@@ -53,69 +78,73 @@ pub fn read_full(input: &mut impl Read, room: &mut [u8]) -> io::Result<usize>
     Ok(done)
 }
 
+// The number that some bytes spell, highest byte first.
+fn number(bytes: &[u8]) -> u64 {
+    bytes
+        .iter()
+        .fold(0, |above, byte| above << 8 | u64::from(*byte))
+}
+
 // The number that so many bytes spell; 0 where they are not all there.
-pub fn number_at(t: &[u8], at: usize, size: usize) -> u64 {
-    if size <= 8 {
-        if at <= t.len() {
-            if size <= t.len() - at {
-                return be(t, at, size);
-            }
-        }
-    }
-    0
+pub fn number_at(bytes: &[u8], at: usize, size: usize) -> u64 {
+    bytes
+        .get(at..)
+        .and_then(|rest| rest.get(..size))
+        .map_or(0, |all| number(all))
 }
 
-// The bytes between two places; none where they are not all there.
-pub fn span<'a>(t: &'a [u8], from: usize, to: usize) -> &'a [u8] {
-    if from <= to {
-        if to <= t.len() {
-            return &t[from..to];
-        }
-    }
-    &t[..0]
-}
-
-// The place so many bytes further on, or past the end where there are not so many.
-pub fn after(t: &[u8], at: usize, size: usize) -> usize {
-    if at <= t.len() {
-        if size <= t.len() - at {
-            return at + size;
-        }
-    }
-    t.len()
-}
-
-fn has(t: &[u8], at: usize, size: usize) -> bool {
-    if at <= t.len() {
-        size <= t.len() - at
-    } else {
-        false
-    }
-}
-
-pub fn entry_at(t: &[u8], at: usize) -> Found {
-    let steps = after(t, at, HEADER);
-    let header = span(t, at, steps);
-    if header.len() != HEADER {
-        return Found::Broken;
-    }
-    let steps_size = number_at(header, 4, 2) as usize;
-    let content = after(t, steps, steps_size);
-    let content_size = number_at(header, 7, 3) as usize;
-    if !has(t, steps, steps_size) {
-        return Found::Broken;
-    }
-    if !has(t, content, content_size) {
-        return Found::Broken;
-    }
-    Found::Is(Entry {
-        question: number_at(header, 0, 1) as usize,
-        place: number_at(header, 1, 3) as usize,
-        kind: number_at(header, 6, 1) as usize,
-        high: number_at(header, 10, 8),
-        low: number_at(header, 18, 8),
-        steps,
+// The first entry of a table, and the rest of the table after it.
+pub fn entry_at(table: &[u8]) -> Option<(Entry<'_>, &[u8])>
+    ensures { IfSome result (λ r. length r.1.now < length table.now) }
+{
+    let (header, rest) = table.split_first_chunk::<HEADER>()?;
+    let (asked, rest) = rest.split_at_checked(number(&header[4..6]) as usize)?;
+    let (content, rest) = rest.split_at_checked(number(&header[7..10]) as usize)?;
+    let entry = Entry {
+        question: header[0],
+        place: number(&header[1..4]) as usize,
+        answer: Answer {
+            kind: header[6],
+            high: number(&header[10..18]),
+            low: number(&header[18..]),
+        },
+        asked,
         content,
-        next: after(t, content, content_size),
-    })
+    };
+    Some((entry, rest))
+}
+
+// Goes over a table from a place on, and counts its rows. `reach` says how many bytes before its content an image begins,
+// `row` what an image's row comes to.
+pub fn replay<R, A>(
+    rt: &impl Print,
+    table: &[u8],
+    from: usize,
+    reach: R,
+    row: A,
+) -> io::Result<Tally>
+where
+    R: Fn(&Entry<'_>) -> usize,
+    A: Fn(&[u8], &Entry<'_>) -> Row,
+    requires reach { R.IsAlwaysCallable reach }
+    requires row { A.IsAlwaysCallable row }
+{
+    let mut tally = Tally::default();
+    let mut image: &[u8] = &[];
+    let mut rest = table.get(from..).unwrap_or(&[]);
+    while let Some((entry, after)) = entry_at(rest) {
+        rest = after;
+        if entry.question == IMAGE {
+            let end = table.len().saturating_sub(rest.len());
+            let content = end.saturating_sub(entry.content.len());
+            let start = content.checked_sub(reach(&entry)).unwrap_or(content);
+            image = table.get(start..end).unwrap_or(&[]);
+        } else {
+            tally.count(row(image, &entry));
+        }
+    }
+    if !rest.is_empty() {
+        rt.write_all(b"the table is broken past these rows:\n")?;
+    }
+    Ok(tally)
 }

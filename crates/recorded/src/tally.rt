@@ -1,109 +1,113 @@
 // What was counted, and how it is written.
-use std::io;
-use std::num::{wrapping_add_u64, wrapping_sub_u64};
+use refusal::Refusal;
+use std::fmt;
 
 // One count for each question, or for each kind of answer: as many as refusals have numbers, and 0.
 const SLOTS: usize = 25;
 
-// What was counted: rows by question, equal ones by question, and rows by the kind of answer that was recorded.
+// What a row counts as: by its question, by the kind of the answer that was recorded, and whether ours is equal.
 #[derive(Clone, Copy)]
+pub struct Row {
+    pub question: usize,
+    pub kind: usize,
+    pub is_equal: bool,
+}
+
+// Rows, and how many of them are equal.
+#[derive(Clone, Copy, Default)]
+pub struct Count {
+    rows: u64,
+    equal: u64,
+}
+
+// What was counted: all rows, the first different one, rows by question, and by the kind of answer that was recorded.
+#[derive(Clone, Copy, Default)]
 pub struct Tally {
-    pub rows: u64,
-    pub different: u64,
-    pub first: u64,
-    pub asked: [u64; 25],
-    pub equal: [u64; 25],
-    pub kinds: [u64; 25],
+    all: Count,
+    first: Option<u64>,
+    questions: [Count; SLOTS],
+    kinds: [u64; SLOTS],
 }
 
-pub fn nothing_yet() -> Tally {
-    Tally {
-        rows: 0,
-        different: 0,
-        first: 0,
-        asked: [0; 25],
-        equal: [0; 25],
-        kinds: [0; 25],
+impl Count {
+    fn add(&mut self, is_equal: bool) {
+        self.rows = self.rows.wrapping_add(1);
+        if is_equal {
+            self.equal = self.equal.wrapping_add(1);
+        }
     }
 }
 
-fn counted(counts: [u64; 25], slot: usize) -> [u64; 25] {
-    let mut c = counts;
-    if slot < SLOTS {
-        c[slot] = wrapping_add_u64(c[slot], 1);
-    }
-    c
-}
-
-// The first row whose answers differ: this one, where there was none before.
-fn first_different(t: Tally, row: u64) -> u64 {
-    if t.different == 0 { row } else { t.first }
-}
-
-// The tally after one row more.
-pub fn with_row(t: Tally, question: usize, kind: usize, is_equal: bool) -> Tally {
-    let rows = wrapping_add_u64(t.rows, 1);
-    let asked_before = t.asked;
-    let asked = counted(asked_before, question);
-    let kinds_before = t.kinds;
-    let kinds = counted(kinds_before, kind);
-    let equal_before = t.equal;
-    if is_equal {
-        let equal = counted(equal_before, question);
-        return Tally {
-            rows,
-            different: t.different,
-            first: t.first,
-            asked,
-            equal,
-            kinds,
-        };
-    }
-    let equal = equal_before;
-    Tally {
-        rows,
-        different: wrapping_add_u64(t.different, 1),
-        first: first_different(t, rows),
-        asked,
-        equal,
-        kinds,
+impl fmt::Display for Count {
+    fn fmt<W: fmt::Write>(&self, f: &mut fmt::Formatter<W>) -> fmt::Result {
+        let rows = self.rows;
+        let equal = self.equal;
+        write!(f, "{rows} rows, {equal} equal")
     }
 }
 
-fn at(counts: &[u64], slot: usize) -> u64 {
-    if slot < counts.len() { counts[slot] } else { 0 }
+// The counts of some refusals, by their numbers.
+#[derive(Clone, Copy)]
+pub struct Refused<'a> {
+    tally: &'a Tally,
+    refusals: &'a [Refusal],
 }
 
-pub fn print_question(
-    rt: &impl Print,
-    name: &[u8],
-    rows: &[u64],
-    equal: &[u64],
-    slot: usize,
-) -> io::Result<()> {
-    rt.write_all(name)?;
-    rt.print(at(rows, slot))?;
-    rt.write_all(b" rows, ")?;
-    rt.print(at(equal, slot))?;
-    rt.write_all(b" equal\n")
-}
-
-pub fn print_kind(rt: &impl Print, name: &[u8], kinds: &[u64], kind: usize) -> io::Result<()> {
-    rt.write_all(name)?;
-    rt.print(at(kinds, kind))
-}
-
-pub fn print_sum(rt: &impl Print, t: Tally) -> io::Result<()> {
-    rt.print(t.rows)?;
-    rt.write_all(b" rows, ")?;
-    rt.print(wrapping_sub_u64(t.rows, t.different))?;
-    rt.write_all(b" equal, ")?;
-    rt.print(t.different)?;
-    rt.write_all(b" different\n")?;
-    if 0 < t.different {
-        rt.write_all(b"the first different row is ")?;
-        rt.print(t.first)?;
-        rt.write_all(b"\n")?;
+impl Tally {
+    pub fn count(&mut self, row: Row) {
+        self.all.add(row.is_equal);
+        if !row.is_equal {
+            self.first = self.first.or(Some(self.all.rows));
+        }
+        if let Some(count) = self.questions.get_mut(row.question) {
+            count.add(row.is_equal);
+        }
+        if let Some(rows) = self.kinds.get_mut(row.kind) {
+            *rows = rows.wrapping_add(1);
+        }
     }
-    Ok(())
+
+    // The rows of a question.
+    pub fn question(&self, slot: usize) -> Count {
+        self.questions.get(slot).copied().unwrap_or_default()
+    }
+
+    // How many rows have a kind of answer.
+    pub fn kind(&self, slot: usize) -> u64 {
+        self.kinds.get(slot).copied().unwrap_or(0)
+    }
+
+    pub fn refused<'a>(&'a self, refusals: &'a [Refusal]) -> Refused<'a> {
+        Refused {
+            tally: self,
+            refusals,
+        }
+    }
+}
+
+impl fmt::Display for Refused<'_> {
+    fn fmt<W: fmt::Write>(&self, f: &mut fmt::Formatter<W>) -> fmt::Result {
+        f.write_str("refused with")?;
+        let mut comma = "";
+        for refusal in self.refusals {
+            let number = refusal.number();
+            let rows = self.tally.kind(usize::from(number));
+            write!(f, "{comma} {number}: {rows}")?;
+            comma = ",";
+        }
+        Ok(())
+    }
+}
+
+// All rows, and which is the first different one.
+impl fmt::Display for Tally {
+    fn fmt<W: fmt::Write>(&self, f: &mut fmt::Formatter<W>) -> fmt::Result {
+        let all = self.all;
+        let different = all.rows.wrapping_sub(all.equal);
+        write!(f, "{all}, {different} different")?;
+        if let Some(first) = self.first {
+            write!(f, "\nthe first different row is {first}")?;
+        }
+        Ok(())
+    }
 }
