@@ -1,15 +1,15 @@
 // Lists the networks of the image on standard input: a full walk, aliases, networks without data and empty values kept.
 #![tactic(auto)]
 
-ghost use Rattle.std.specs.Prelude.{◌≡◌, ◌≤◌, IfOk, length};
+ghost use Rattle.std.specs.Prelude.{◌≡◌, length};
 
 use handle::Handle;
 use number::Key;
-use opening::Opened;
 use place::{Options, Outcome};
+use recorded::read_full;
+use refusal::Refusal;
 use std::io;
-use std::io::Read;
-use walk::{Range, Status, Walk};
+use walk::{Called, Range, Started, Walk};
 
 // The longest image that is listed.
 const LONGEST: usize = 65536;
@@ -17,7 +17,7 @@ const LONGEST: usize = 65536;
 // The most places that one call may take, and the most calls: no listing lasts so long.
 const BUDGET: u64 = 4294967296;
 
-const CALLS: u64 = 18446744073709551615;
+const CALLS: u64 = u64::MAX;
 
 // One byte more than the longest image, to see that one is longer.
 fn image_room() -> [u8; 65537]
@@ -29,28 +29,18 @@ fn image_room() -> [u8; 65537]
 // All addresses of an IP version.
 fn all_addresses(version: u64) -> Range {
     if version == 4 {
-        return Range::Ipv4 { addr: 0, len: 0 };
-    }
-    Range::Ipv6 {
-        addr: Key { high: 0, low: 0 },
-        len: 0,
-    }
-}
-
-// A failed place is gone and the walk goes on; a refused call would be refused again.
-fn is_last(answer: Outcome) -> bool {
-    match answer {
-        Outcome::End => true,
-        Outcome::Refused(_) => true,
-        Outcome::Given(_) => false,
-        Outcome::Failed(_) => false,
-        Outcome::Paused => false,
+        Range::Ipv4 { addr: 0, len: 0 }
+    } else {
+        Range::Ipv6 {
+            addr: Key { high: 0, low: 0 },
+            len: 0,
+        }
     }
 }
 
-fn write_error(rt: &impl Print, number: u8) -> io::Result<()> {
+fn write_error(rt: &impl Print, why: Refusal) -> io::Result<()> {
     let mut line = [0u8; 80];
-    let n = listing::put_error(&mut line, 0, number);
+    let n = listing::put_error(&mut line, 0, why.number());
     rt.write_all(&line[..n])
 }
 
@@ -60,20 +50,21 @@ fn write_outcome(rt: &impl Print, width: u64, answer: Outcome) -> io::Result<()>
     rt.write_all(&line[..n])
 }
 
+// A failed place is gone and the walk goes on; a refused call would be refused again.
 fn list_walk(rt: &impl Print, image: &[u8], h: Handle, begun: Walk) -> io::Result<()> {
     let width = begun.width;
     let mut walk = begun;
-    let mut left = CALLS;
-    while 0 < left {
-        let called = maxminddb::next(image, h, walk, BUDGET);
-        let answer = called.answer;
+    for _ in 0..CALLS {
+        let Called {
+            answer,
+            walk: after,
+            ..
+        } = maxminddb::next(image, h, walk, BUDGET);
         write_outcome(rt, width, answer)?;
-        if is_last(answer) {
+        if matches!(answer, Outcome::End | Outcome::Refused(_)) {
             break;
         }
-        let after = called.walk;
         walk = after;
-        left -= 1;
     }
     Ok(())
 }
@@ -84,38 +75,19 @@ fn list_from(rt: &impl Print, image: &[u8], h: Handle) -> io::Result<()> {
         dataless: true,
         skipempty: false,
     };
-    let started = maxminddb::within(image, h, all_addresses(h.version), everything);
-    let walk = started.walk;
-    let status = started.status;
+    let Started { status, walk } =
+        maxminddb::within(image, h, all_addresses(h.version), everything);
     match status {
-        Status::Begun => list_walk(rt, image, h, walk),
-        Status::Refused(number) => write_error(rt, number),
+        Ok(()) => list_walk(rt, image, h, walk),
+        Err(why) => write_error(rt, why),
     }
 }
 
 fn list(rt: &impl Print, image: &[u8]) -> io::Result<()> {
     match maxminddb::open(image) {
-        Opened::Is(reader) => {
-            let h = reader.handle;
-            list_from(rt, image, h)
-        }
-        Opened::Refused(number) => write_error(rt, number),
+        Ok(reader) => list_from(rt, image, reader.handle),
+        Err(why) => write_error(rt, why),
     }
-}
-
-// Reads until the room is full or the input ends, and answers how many bytes came.
-fn read_full(input: &mut impl Read, room: &mut [u8]) -> io::Result<usize>
-    ensures { IfOk result (λ n. n ≤ length room.new) }
-{
-    let mut done: usize = 0;
-    while done < room.len() {
-        let n = input.read(&mut room[done..])?;
-        if n == 0 {
-            break;
-        }
-        done += n;
-    }
-    Ok(done)
 }
 
 fn main(rt: HostRuntime) -> io::Result<()> {

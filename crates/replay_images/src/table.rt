@@ -1,29 +1,37 @@
 // The questions and the kinds of answers of this table. README.md has the layout.
-pub const QUESTION_IMAGE: usize = 0;
+#[derive(Clone, Copy)]
+pub enum Question {
+    Opening = 1,
+    DatabaseType = 2,
+    Language = 3,
+    Description = 4,
+    Age = 5,
+    Lookup = 6,
+}
 
-pub const QUESTION_OPENING: usize = 1;
+impl TryFrom<u8> for Question {
+    type Error = ();
 
-pub const QUESTION_DATABASE_TYPE: usize = 2;
+    fn try_from(number: u8) -> Result<Question, ()> {
+        match number {
+            1 => Ok(Question::Opening),
+            2 => Ok(Question::DatabaseType),
+            3 => Ok(Question::Language),
+            4 => Ok(Question::Description),
+            5 => Ok(Question::Age),
+            6 => Ok(Question::Lookup),
+            _ => Err(()),
+        }
+    }
+}
 
-pub const QUESTION_LANGUAGE: usize = 3;
-
-pub const QUESTION_DESCRIPTION: usize = 4;
-
-pub const QUESTION_AGE: usize = 5;
-
-pub const QUESTION_LOOKUP: usize = 6;
-
-// Kinds of answers. They leave the numbers of the refusals free, by which refused answers are counted.
-pub const KIND_REFUSED: usize = 0;
-
-pub const KIND_OPENED: usize = 12;
-
-pub const KIND_TEXT: usize = 13;
-
-pub const KIND_ABSENT: usize = 14;
-
-pub const KIND_SECONDS: usize = 15;
-
-pub const KIND_DATA: usize = 16;
-
-pub const KIND_NO_DATA: usize = 17;
+// Kinds of answers, but for a refusal. They leave the numbers of the refusals free, by which refused answers are counted.
+#[derive(Clone, Copy)]
+pub enum Kind {
+    Opened = 12,
+    Text = 13,
+    Absent = 14,
+    Seconds = 15,
+    Data = 16,
+    NoData = 17,
+}

@@ -1,124 +1,84 @@
 // What our functions answer to a recorded question, and whether it is what the crate answered.
 use crate::steps::arrived;
-use crate::table::{
-    KIND_ABSENT, KIND_ARRAY, KIND_BOOLEAN, KIND_BYTES, KIND_DOUBLE, KIND_EMPTY, KIND_FLOAT,
-    KIND_HOLDS, KIND_I32, KIND_MAP, KIND_PAST, KIND_REFUSED, KIND_TEXT, KIND_U16, KIND_U32,
-    KIND_U64, KIND_U128, QUESTION_EMPTY_CHECK, QUESTION_READING, QUESTION_SKIPPING,
-};
+use crate::table::{Kind, Question};
 use charge::Charge;
-use key::same;
-use path::Step;
-use recorded::{Entry, span};
-use refusal::MALFORMED;
-use skip::{Skipped, skip_value};
-use value::{Emptiness, Value, is_empty_value_at, part, read};
+use path::Cursor;
+use recorded::{Answer, Entry};
+use refusal::Refusal;
+use skip::skip_value;
+use value::{Value, is_empty_value_at, part, read};
 
-// An answer as the table has it: its kind, and a number in two halves.
-#[derive(Clone, Copy)]
-struct Answer {
-    kind: usize,
-    high: u64,
-    low: u64,
+fn plain(kind: Kind, low: u64) -> Answer {
+    pair(kind, 0, low)
 }
 
-fn plain(kind: usize, low: u64) -> Answer {
-    Answer { kind, high: 0, low }
-}
-
-fn refused(n: u8) -> Answer {
-    plain(KIND_REFUSED, n as u64)
-}
-
-// The table has no signs: an i32 is counted from the lowest.
-fn from_lowest(n: i32) -> u64 {
-    ((n as i64) + 2147483648) as u64
-}
-
-fn bit(b: bool) -> u64 {
-    if b { 1 } else { 0 }
+fn pair(kind: Kind, high: u64, low: u64) -> Answer {
+    Answer {
+        kind: kind as u8,
+        high,
+        low,
+    }
 }
 
 // The bits of the number itself, which must be the bits that came beside it; a NaN has no bits of its own.
 fn double_bits(x: f64, bits: u64) -> u64 {
-    if x == x { f64::to_bits(x) } else { bits }
+    if x.is_nan() { bits } else { x.to_bits() }
 }
 
 fn float_bits(x: f32, bits: u32) -> u32 {
-    if x == x { f32::to_bits(x) } else { bits }
+    if x.is_nan() { bits } else { x.to_bits() }
 }
 
-fn widened(bits: u32) -> u64 {
-    bits as u64
-}
-
-fn answer_of(v: Value) -> Answer {
-    match v {
-        Value::Map(n) => plain(KIND_MAP, n as u64),
-        Value::Array(n) => plain(KIND_ARRAY, n as u64),
-        Value::Text(n) => plain(KIND_TEXT, n as u64),
-        Value::Bytes(n) => plain(KIND_BYTES, n as u64),
-        Value::U16(n) => plain(KIND_U16, n as u64),
-        Value::U32(n) => plain(KIND_U32, n as u64),
-        Value::U64(n) => plain(KIND_U64, n),
-        Value::U128(high, low) => Answer {
-            kind: KIND_U128,
-            high,
-            low,
-        },
-        Value::I32(n) => plain(KIND_I32, from_lowest(n)),
-        Value::Boolean(b) => plain(KIND_BOOLEAN, bit(b)),
-        Value::Double(x, bits) => Answer {
-            kind: KIND_DOUBLE,
-            high: double_bits(x, bits),
-            low: bits,
-        },
-        Value::Float(x, bits) => Answer {
-            kind: KIND_FLOAT,
-            high: widened(float_bits(x, bits)),
-            low: widened(bits),
-        },
-        Value::Refused(n) => refused(n),
+// The table has no signs: an i32 is counted from the lowest.
+fn value_answer(value: Value) -> Answer {
+    match value {
+        Value::Map(n) => plain(Kind::Map, n as u64),
+        Value::Array(n) => plain(Kind::Array, n as u64),
+        Value::Text(n) => plain(Kind::Text, n as u64),
+        Value::Bytes(n) => plain(Kind::Bytes, n as u64),
+        Value::U16(n) => plain(Kind::U16, u64::from(n)),
+        Value::U32(n) => plain(Kind::U32, u64::from(n)),
+        Value::U64(n) => plain(Kind::U64, n),
+        Value::U128(high, low) => pair(Kind::U128, high, low),
+        Value::I32(n) => plain(Kind::I32, u64::from(n.abs_diff(i32::MIN))),
+        Value::Boolean(b) => plain(Kind::Boolean, u64::from(b)),
+        Value::Double(x, bits) => pair(Kind::Double, double_bits(x, bits), bits),
+        Value::Float(x, bits) => pair(
+            Kind::Float,
+            u64::from(float_bits(x, bits)),
+            u64::from(bits),
+        ),
     }
-}
-
-fn is_recorded(a: Answer, e: Entry) -> bool {
-    a.kind == e.kind && a.high == e.high && a.low == e.low
 }
 
 // The part that is handed out is the recorded content, or empty where another kind was recorded.
-fn is_part(
-    section: &[u8],
-    place: usize,
-    c: Charge,
-    bytes: bool,
-    wanted: bool,
-    content: &[u8],
-) -> bool {
-    if wanted {
-        same(part(section, place, c, bytes), content)
+fn is_part(section: &[u8], cursor: Cursor, bytes: bool, is_wanted: bool, content: &[u8]) -> bool {
+    let part = part(section, cursor.place, cursor.charge, bytes);
+    if is_wanted {
+        part == content
     } else {
-        part(section, place, c, bytes).len() == 0
+        part.is_empty()
     }
 }
 
-fn is_read(section: &[u8], place: usize, c: Charge, e: Entry, content: &[u8]) -> bool {
-    if !is_recorded(answer_of(read(section, place, c)), e) {
-        return false;
-    }
-    if !is_part(section, place, c, false, e.kind == KIND_TEXT, content) {
-        return false;
-    }
-    is_part(section, place, c, true, e.kind == KIND_BYTES, content)
+fn is_read(section: &[u8], cursor: Cursor, entry: &Entry<'_>) -> bool {
+    let Entry {
+        answer, content, ..
+    } = *entry;
+    let ours = match read(section, cursor.place, cursor.charge) {
+        Ok(value) => value_answer(value),
+        Err(why) => Answer::refused(why),
+    };
+    answer == ours
+        && is_part(section, cursor, false, answer.kind == Kind::Text as u8, content)
+        && is_part(section, cursor, true, answer.kind == Kind::Bytes as u8, content)
 }
 
-fn is_path_read(section: &[u8], steps: &[u8], e: Entry, content: &[u8]) -> bool {
-    match arrived(section, e.place, steps) {
-        Step::At(c) => {
-            let charge = c.charge;
-            is_read(section, c.place, charge, e, content)
-        }
-        Step::Absent => is_recorded(plain(KIND_ABSENT, 0), e),
-        Step::Refused(n) => is_recorded(refused(n), e),
+fn is_path_read(section: &[u8], entry: &Entry<'_>) -> bool {
+    match arrived(section, entry.place, entry.asked) {
+        Ok(Some(cursor)) => is_read(section, cursor, entry),
+        Ok(None) => entry.answer == plain(Kind::Absent, 0),
+        Err(why) => entry.answer == Answer::refused(why),
     }
 }
 
@@ -128,30 +88,24 @@ fn skipping(section: &[u8], place: usize) -> Answer {
         payload: 0,
     };
     match skip_value(section, place, nothing) {
-        Skipped::Past { next, charge: _ } => plain(KIND_PAST, next as u64),
-        Skipped::Stuck => refused(MALFORMED),
+        Some(past) => plain(Kind::Past, past.next as u64),
+        None => Answer::refused(Refusal::Malformed),
     }
 }
 
 fn emptiness(section: &[u8], place: usize) -> Answer {
     match is_empty_value_at(section, place) {
-        Emptiness::Empty => plain(KIND_EMPTY, 0),
-        Emptiness::Holds => plain(KIND_HOLDS, 0),
-        Emptiness::Malformed => refused(MALFORMED),
+        Ok(true) => plain(Kind::Empty, 0),
+        Ok(false) => plain(Kind::Holds, 0),
+        Err(why) => Answer::refused(why),
     }
 }
 
-pub fn is_equal(section: &[u8], table: &[u8], e: Entry) -> bool {
-    let question = e.question;
-    match question {
-        QUESTION_READING => is_path_read(
-            section,
-            span(table, e.steps, e.content),
-            e,
-            span(table, e.content, e.next),
-        ),
-        QUESTION_SKIPPING => is_recorded(skipping(section, e.place), e),
-        QUESTION_EMPTY_CHECK => is_recorded(emptiness(section, e.place), e),
-        _ => false,
+pub fn is_equal(section: &[u8], entry: &Entry<'_>) -> bool {
+    match Question::try_from(entry.question) {
+        Ok(Question::Reading) => is_path_read(section, entry),
+        Ok(Question::Skipping) => entry.answer == skipping(section, entry.place),
+        Ok(Question::EmptyCheck) => entry.answer == emptiness(section, entry.place),
+        Err(()) => false,
     }
 }

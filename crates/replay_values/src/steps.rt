@@ -1,70 +1,59 @@
 // The steps of a recorded path, taken one after the other.
 use charge::Charge;
-use path::{Cursor, Step, step_index, step_key};
-use recorded::{after, number_at, span};
-
-const STEP_KEY: u64 = 0;
-
-const STEP_FROM_END: u64 = 2;
+use path::{Cursor, step_index, step_key};
+use recorded::number_at;
+use refusal::Refusal;
 
 // Before its key or its index, which has eight bytes, a step has its kind and how many bytes follow.
 const STEP_HEADER: usize = 3;
 
-fn one_step(section: &[u8], c: Cursor, how: u64, what: &[u8]) -> Step {
-    if how == STEP_KEY {
-        step_key(section, c, what)
-    } else {
-        step_index(
-            section,
-            c,
-            number_at(what, 0, 8) as usize,
-            how == STEP_FROM_END,
-        )
+enum StepKind {
+    Key,
+    Index,
+    FromEnd,
+}
+
+impl From<u8> for StepKind {
+    fn from(number: u8) -> StepKind {
+        match number {
+            0 => StepKind::Key,
+            2 => StepKind::FromEnd,
+            _ => StepKind::Index,
+        }
     }
 }
 
-// Where the steps lead from a place. Each takes a byte at least, so there are no more of them than bytes.
-pub fn arrived(section: &[u8], first: usize, steps: &[u8]) -> Step {
-    let mut place = first;
-    let mut used = Charge {
+fn one_step(
+    section: &[u8],
+    cursor: Cursor,
+    kind: StepKind,
+    what: &[u8],
+) -> Result<Option<Cursor>, Refusal> {
+    let index = number_at(what, 0, 8) as usize;
+    match kind {
+        StepKind::Key => step_key(section, cursor, what),
+        StepKind::Index => step_index(section, cursor, index, false),
+        StepKind::FromEnd => step_index(section, cursor, index, true),
+    }
+}
+
+// Where the steps lead from a place. What a last step lacks is not there.
+pub fn arrived(section: &[u8], place: usize, steps: &[u8]) -> Result<Option<Cursor>, Refusal> {
+    let charge = Charge {
         values: 0,
         payload: 0,
     };
-    let mut at: usize = 0;
-    let mut left = steps.len();
-    while 0 < left {
-        if steps.len() <= at {
-            break;
-        }
-        let from = after(steps, at, STEP_HEADER);
-        let header = span(steps, at, from);
-        let to = after(steps, from, number_at(header, 1, 2) as usize);
-        match one_step(
-            section,
-            Cursor {
-                place,
-                charge: used,
-            },
-            number_at(header, 0, 1),
-            span(steps, from, to),
-        ) {
-            Step::At(c) => {
-                place = c.place;
-                let u = c.charge;
-                used = u;
-            }
-            Step::Absent => {
-                return Step::Absent;
-            }
-            Step::Refused(n) => {
-                return Step::Refused(n);
-            }
-        }
-        at = to;
-        left -= 1;
+    let mut cursor = Cursor { place, charge };
+    let mut rest = steps;
+    while let Some(kind) = rest.first() {
+        let (header, after) = rest.split_at(STEP_HEADER.min(rest.len()));
+        let size = number_at(header, 1, 2) as usize;
+        let (what, after) = after.split_at(size.min(after.len()));
+        let Some(next) = one_step(section, cursor, StepKind::from(*kind), what)? else {
+            return Ok(None);
+        };
+        cursor = next;
+        rest = after;
     }
-    Step::At(Cursor {
-        place,
-        charge: used,
-    })
+    Ok(Some(cursor))
 }

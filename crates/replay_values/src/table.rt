@@ -1,43 +1,42 @@
 // The questions and the kinds of answers of this table. README.md has the layout.
-pub const QUESTION_SECTION: usize = 0;
+#[derive(Clone, Copy)]
+pub enum Question {
+    Reading = 1,
+    Skipping = 2,
+    EmptyCheck = 3,
+}
 
-pub const QUESTION_READING: usize = 1;
+impl TryFrom<u8> for Question {
+    type Error = ();
 
-pub const QUESTION_SKIPPING: usize = 2;
-
-pub const QUESTION_EMPTY_CHECK: usize = 3;
+    fn try_from(number: u8) -> Result<Question, ()> {
+        match number {
+            1 => Ok(Question::Reading),
+            2 => Ok(Question::Skipping),
+            3 => Ok(Question::EmptyCheck),
+            _ => Err(()),
+        }
+    }
+}
 
 // Kinds of answers: the type numbers of values, and those that no value has.
-pub const KIND_REFUSED: usize = 0;
-
-pub const KIND_ABSENT: usize = 1;
-
-pub const KIND_TEXT: usize = 2;
-
-pub const KIND_DOUBLE: usize = 3;
-
-pub const KIND_BYTES: usize = 4;
-
-pub const KIND_U16: usize = 5;
-
-pub const KIND_U32: usize = 6;
-
-pub const KIND_MAP: usize = 7;
-
-pub const KIND_I32: usize = 8;
-
-pub const KIND_U64: usize = 9;
-
-pub const KIND_U128: usize = 10;
-
-pub const KIND_ARRAY: usize = 11;
-
-pub const KIND_BOOLEAN: usize = 14;
-
-pub const KIND_FLOAT: usize = 15;
-
-pub const KIND_PAST: usize = 16;
-
-pub const KIND_EMPTY: usize = 17;
-
-pub const KIND_HOLDS: usize = 18;
+#[derive(Clone, Copy)]
+pub enum Kind {
+    Refused = 0,
+    Absent = 1,
+    Text = 2,
+    Double = 3,
+    Bytes = 4,
+    U16 = 5,
+    U32 = 6,
+    Map = 7,
+    I32 = 8,
+    U64 = 9,
+    U128 = 10,
+    Array = 11,
+    Boolean = 14,
+    Float = 15,
+    Past = 16,
+    Empty = 17,
+    Holds = 18,
+}

@@ -1,15 +1,26 @@
-// The questions and the kinds of answers of this table. README.md has the layout.
-pub const QUESTION_IMAGE: usize = 0;
+// The questions and the kinds of answers of this table. README.md has the layout. All are asked alike, and counted apart.
+#[derive(Clone, Copy)]
+pub enum Question {
+    Whole = 1,
+    Ipv4 = 2,
+    Ipv6 = 3,
+}
 
-pub const QUESTION_WHOLE: usize = 1;
+// Kinds of answers, but for a refused start. They leave the numbers of the refusals free, by which that is counted.
+#[derive(Clone, Copy)]
+pub enum Kind {
+    Lines = 17,
+    Sums = 18,
+}
 
-pub const QUESTION_IPV4: usize = 2;
+impl TryFrom<u8> for Kind {
+    type Error = ();
 
-pub const QUESTION_IPV6: usize = 3;
-
-// Kinds of answers. A refused start is counted by its number, which they leave free.
-pub const KIND_REFUSED: usize = 0;
-
-pub const KIND_LINES: usize = 17;
-
-pub const KIND_SUMS: usize = 18;
+    fn try_from(number: u8) -> Result<Kind, ()> {
+        match number {
+            17 => Ok(Kind::Lines),
+            18 => Ok(Kind::Sums),
+            _ => Err(()),
+        }
+    }
+}

@@ -1,9 +1,0 @@
--- What has come lies within the room, which keeps its length.
-use Rattle.std.proofs.Common.{length, ◌-◌, ◌≡◌, ◌≤◌}
-use Rattle.list.proofs.read_full.Given as goal
-
-abbrev pub invariant-loop-done : goal.invariant-loop-done
-invariant-loop-done g l = (length l.room ≡ length l.initial.room) × (l.done ≤ length l.room)
-
-abbrev pub decreases-loop-done : goal.decreases-loop-done
-decreases-loop-done g l = length l.initial.room - l.done

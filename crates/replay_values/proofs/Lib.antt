@@ -1,2 +1,0 @@
--- The laws that the proofs here cite.
-pub mod NumberLaws
