@@ -75,8 +75,12 @@ fn list_from(rt: &impl Print, image: &[u8], h: Handle) -> io::Result<()> {
         dataless: true,
         skipempty: false,
     };
-    let Started { status, walk } =
-        maxminddb::within(image, h, all_addresses(h.version), everything);
+    let Started { status, walk } = maxminddb::within(
+        image,
+        h,
+        all_addresses(h.version),
+        everything,
+    );
     match status {
         Ok(()) => list_walk(rt, image, h, walk),
         Err(why) => write_error(rt, why),

@@ -85,8 +85,10 @@ fn is_language(image: &[u8], entry: &Entry<'_>) -> bool {
 
 fn is_description(image: &[u8], entry: &Entry<'_>) -> bool {
     open(image).is_ok_and(|reader| {
-        last_in(image, reader.metadata.description.size, entry.asked)
-            .is_some_and(|at| is_text(entry, description(image, at)))
+        last_in(image, reader.metadata.description.size, entry.asked).is_some_and(|at| is_text(
+            entry,
+            description(image, at),
+        ))
     })
 }
 
@@ -114,10 +116,12 @@ fn address_of(bytes: &[u8]) -> Address {
 
 fn answer_of(found: Result<Found, Refusal>) -> Answer {
     match found {
-        Ok(Found {
-            offset: Some(offset),
-            len,
-        }) => pair(Kind::Data, offset, len),
+        Ok(
+            Found {
+                offset: Some(offset),
+                len,
+            },
+        ) => pair(Kind::Data, offset, len),
         Ok(Found { offset: None, len }) => plain(Kind::NoData, len),
         Err(why) => Answer::refused(why),
     }

@@ -43,35 +43,41 @@ fn value_answer(value: Value) -> Answer {
         Value::I32(n) => plain(Kind::I32, u64::from(n.abs_diff(i32::MIN))),
         Value::Boolean(b) => plain(Kind::Boolean, u64::from(b)),
         Value::Double(x, bits) => pair(Kind::Double, double_bits(x, bits), bits),
-        Value::Float(x, bits) => pair(
-            Kind::Float,
-            u64::from(float_bits(x, bits)),
-            u64::from(bits),
-        ),
+        Value::Float(x, bits) => pair(Kind::Float, u64::from(float_bits(x, bits)), u64::from(bits)),
     }
 }
 
-// The part that is handed out is the recorded content, or empty where another kind was recorded.
+// The part that is handed out is the recorded content, or none where another kind was recorded.
 fn is_part(section: &[u8], cursor: Cursor, bytes: bool, is_wanted: bool, content: &[u8]) -> bool {
-    let part = part(section, cursor.place, cursor.charge, bytes);
-    if is_wanted {
-        part == content
-    } else {
-        part.is_empty()
-    }
+    let wanted: &[u8] = if is_wanted { content } else { &[] };
+    part(section, cursor.place, cursor.charge, bytes).unwrap_or(&[]) == wanted
 }
 
 fn is_read(section: &[u8], cursor: Cursor, entry: &Entry<'_>) -> bool {
     let Entry {
-        answer, content, ..
+        answer,
+        content,
+        ..
     } = *entry;
     let ours = match read(section, cursor.place, cursor.charge) {
         Ok(value) => value_answer(value),
         Err(why) => Answer::refused(why),
     };
     answer == ours
-        && is_part(section, cursor, false, answer.kind == Kind::Text as u8, content)
-        && is_part(section, cursor, true, answer.kind == Kind::Bytes as u8, content)
+        && is_part(
+            section,
+            cursor,
+            false,
+            answer.kind == Kind::Text as u8,
+            content,
+        )
+        && is_part(
+            section,
+            cursor,
+            true,
+            answer.kind == Kind::Bytes as u8,
+            content,
+        )
 }
 
 fn is_path_read(section: &[u8], entry: &Entry<'_>) -> bool {

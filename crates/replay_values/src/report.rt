@@ -10,17 +10,29 @@ fn print_kinds(rt: &impl Print, tally: &Tally) -> io::Result<()> {
     let rows = |kind: Kind| tally.kind(kind as usize);
     print!(rt;
         "answers: text {}, bytes {}, double {}, float {}, u16 {}, u32 {}, u64 {}, u128 {}",
-        rows(Kind::Text), rows(Kind::Bytes), rows(Kind::Double), rows(Kind::Float),
-        rows(Kind::U16), rows(Kind::U32), rows(Kind::U64), rows(Kind::U128)
+        rows(Kind::Text),
+        rows(Kind::Bytes),
+        rows(Kind::Double),
+        rows(Kind::Float),
+        rows(Kind::U16),
+        rows(Kind::U32),
+        rows(Kind::U64),
+        rows(Kind::U128)
     )?;
     print!(rt;
         ", i32 {}, boolean {}, map {}, array {}",
-        rows(Kind::I32), rows(Kind::Boolean), rows(Kind::Map), rows(Kind::Array)
+        rows(Kind::I32),
+        rows(Kind::Boolean),
+        rows(Kind::Map),
+        rows(Kind::Array)
     )?;
     println!(rt;
         ", past {}, empty {}, not empty {}, absent {}, refused {}",
-        rows(Kind::Past), rows(Kind::Empty), rows(Kind::Holds),
-        rows(Kind::Absent), rows(Kind::Refused)
+        rows(Kind::Past),
+        rows(Kind::Empty),
+        rows(Kind::Holds),
+        rows(Kind::Absent),
+        rows(Kind::Refused)
     )
 }
 
