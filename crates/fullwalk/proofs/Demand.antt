@@ -8,13 +8,13 @@ use native.Mathlib.Omega.{arith}
 use lib.ListN.{length}
 use lib.Dec.{ltb}
 use borrow.Author.Tests.{lt-ltb, ltb-true}
-use Rattle.refusal.specs.Refusals.{too_deep}
+use Rattle.std.specs.Prelude.{Option}
+use Rattle.std.specs.Prelude as option
+use Rattle.refusal.specs.declared.Refusal.TheVariants as refusal
 use Rattle.handle.specs.declared.Handle.{Handle}
 use Rattle.handle.specs.Handle.{fits_of}
-use Rattle.tree.specs.Lookup.{answer_of}
-use Rattle.tree.specs.declared.Answer.{Answer}
-use Rattle.tree.specs.declared.Answer.TheVariants.{Found, NotFound, Invalid}
-use Rattle.tree.proofs.AnswerLaws.{answer_found}
+use Rattle.tree.specs.Lookup.{found, answer_of}
+use Rattle.tree.specs.declared.Found.{Found}
 use Rattle.tiles.specs.Lists.{All, Some}
 use Rattle.tiles.specs.Tiles.{Tile, In, Before, networks, end_of, Faulty}
 use Rattle.tiles.proofs.ListLaws.{all_map, none_all, all_both, map_by, all_mapped, some_mapped, some_unmapped, once_mapped, ordered_mapped}
@@ -25,7 +25,7 @@ use Rattle.place.specs.declared.Outcome.TheVariants.{Given, Failed}
 use Rattle.walk.specs.Calls.{data_section}
 use Rattle.carried.proofs.InShape.{number_key}
 use Rattle.fullwalk.specs.FullWalk.{width_of, full_walk, Walked, Error, length_of, network_for, shown, outcome_of, offset_in, Covers, Precedes, told_by, lookup, Clean, Answers}
-use Rattle.fullwalk.proofs.EndLaws.{answer_nothing}
+use Rattle.fullwalk.proofs.EndLaws.{answer_length}
 use Rattle.fullwalk.proofs.FullWalkLaws.{whole_tree}
 
 module _ (s : List ℕ) (h : Handle) where
@@ -41,7 +41,7 @@ module _ (s : List ℕ) (h : Handle) where
   abbrev Bad : Tile → Type 0
   Bad t = Faulty h.nodes room (end_of (width_of h) t)
 
-  abbrev ended : Tile → Answer
+  abbrev ended : Tile → Option Found
   ended t = answer_of h.nodes room t.node (length_of h room t)
 
   -- faults are errors
@@ -49,19 +49,18 @@ module _ (s : List ℕ) (h : Handle) where
   error_of t (inl f) = simp (lt-ltb t.node h.nodes f) tt
   error_of t (inr f) = by (ltb t.node h.nodes)
     where
-      by : (b : Bool) → Error (cond b (Failed too_deep) (shown h room t (ended t)))
+      by : (b : Bool) → Error (cond b (Failed refusal.TooDeep) (shown h room t (ended t)))
       by true = tt
       by false = rw f tt
 
   fault_of : (t : Tile) → Error (out t) → Bad t
   fault_of t = by (ltb t.node h.nodes) refl
     where
-      end : (a : Answer) → ended t ≡ a → Error (shown h room t a) → Bad t
-      end (Found o l) e f = absurd f
-      end (NotFound l) e f = absurd f
-      end Invalid e f = inr e
+      end : (a : Option Found) → ended t ≡ a → Error (shown h room t a) → Bad t
+      end (option.Some a) e f = absurd f
+      end option.None e f = inr e
 
-      by : (b : Bool) → ltb t.node h.nodes ≡ b → Error (cond b (Failed too_deep) (shown h room t (ended t))) → Bad t
+      by : (b : Bool) → ltb t.node h.nodes ≡ b → Error (cond b (Failed refusal.TooDeep) (shown h room t (ended t))) → Bad t
       by true e f = inl (ltb-true _ _ e)
       by false e f = end (ended t) refl f
 
@@ -75,22 +74,20 @@ module _ (s : List ℕ) (h : Handle) where
   given : (t : Tile) → Good t → out t ≡ Given (net t)
   given t g = by (ltb t.node h.nodes) refl
     where
-      end : (a : Answer) → ended t ≡ a → shown h room t a ≡ Given (network_for h room t (offset_in a))
-      end (Found o l) e = refl
-      end (NotFound l) e = refl
-      end Invalid e = absurd (g.1 (inr e))
+      end : (a : Option Found) → ended t ≡ a → shown h room t a ≡ Given (network_for h room t (offset_in a))
+      end (option.Some a) e = refl
+      end option.None e = absurd (g.1 (inr e))
 
-      by : (b : Bool) → ltb t.node h.nodes ≡ b → cond b (Failed too_deep) (shown h room t (ended t)) ≡ Given (net t)
+      by : (b : Bool) → ltb t.node h.nodes ≡ b → cond b (Failed refusal.TooDeep) (shown h room t (ended t)) ≡ Given (net t)
       by true e = absurd (g.1 (inl (ltb-true _ _ e)))
       by false e = end (ended t) refl
 
   told : (t : Tile) → Good t → ended t ≡ told_by (net t).len (net t).offset
   told t g = end (ended t) refl
     where
-      end : (a : Answer) → ended t ≡ a → a ≡ told_by (length_of h room t) (offset_in a)
-      end (Found o l) e = ap (Found o) (answer_found h.nodes room (length_of h room t) t.node o l e).2
-      end (NotFound l) e = ap NotFound (answer_nothing h.nodes room t.node (length_of h room t) l e).1
-      end Invalid e = absurd (g.1 (inr e))
+      end : (a : Option Found) → ended t ≡ a → a ≡ told_by (length_of h room t) (offset_in a)
+      end (option.Some a) e = ap (λ (n : ℕ). option.Some (found a.offset n)) (answer_length h.nodes room t.node (length_of h room t) a e)
+      end option.None e = absurd (g.1 (inr e))
 
   rest : (t : Tile) → Good t → width_of h - (net t).len ≡ t.rest
   rest t g = omega (arith, g.0.short)

@@ -7,22 +7,22 @@ use native.Mathlib.Omega.{arith}
 use lib.ListN.{length}
 use lib.Dec.{eqb, ltb, leb}
 use borrow.Author.Tests.{lt-ltb, le-ltb, eq-eqb, ne_eqb, ltb-true, ltb-false, leb-true}
-use Rattle.refusal.specs.Refusals.{too_deep}
+use Rattle.std.specs.Prelude.{Option, Some, None, Result, Ok, Err}
+use Rattle.refusal.specs.declared.Refusal.{Refusal}
+use Rattle.refusal.specs.declared.Refusal.TheVariants as refusal
 use Rattle.handle.specs.declared.Handle.{Handle}
-use Rattle.tree.specs.Lookup.{offset_of, answer_of}
-use Rattle.tree.specs.declared.Answer.{Answer}
-use Rattle.tree.specs.declared.Answer.TheVariants.{Found, NotFound, Invalid}
+use Rattle.control.specs.declared.Head.{Head}
+use Rattle.control.specs.Pointers.{behind_at}
+use Rattle.tree.specs.Lookup.{found, offset_of, answer_of}
+use Rattle.tree.specs.declared.Found.{Found}
 use Rattle.tree.proofs.AnswerLaws.{answer_none, answer_found}
-use Rattle.value.specs.Empty.{empty_at}
-use Rattle.value.specs.declared.Emptiness.{Emptiness}
-use Rattle.value.specs.declared.Emptiness.TheVariants.{Empty, Holds, Malformed}
+use Rattle.value.specs.Empty.{empty_on, empty_at}
 use Rattle.tiles.specs.Lists.{All, only}
 use Rattle.tiles.proofs.ListLaws.{all_append, all_map, only_append, only_none}
 use Rattle.place.specs.Kinds.{is_alias, is_skipped}
-use Rattle.place.specs.Turns.{child_of, network_of, unless_empty, end_of, turn_of}
+use Rattle.place.specs.Turns.{child_of, network_of, unless_empty, end_at, end_of, turn_of}
 use Rattle.place.specs.declared.Place.{Place}
 use Rattle.place.specs.declared.Options.{Options}
-use Rattle.place.specs.declared.Offset.TheVariants.{At, None}
 use Rattle.place.specs.declared.Outcome.{Outcome}
 use Rattle.place.specs.declared.Outcome.TheVariants.{Given, Failed}
 use Rattle.place.specs.declared.Turn.{Turn}
@@ -30,18 +30,43 @@ use Rattle.place.specs.declared.Turn.TheVariants.{Passed, Out, Opened}
 use Rattle.fullwalk.specs.Ends.{End, ending, ends_below, ends_from, answer_at, left_out, shown_at, given_of}
 
 -- no data is found at the node count, or at a node
-pub answer_nothing : (nodes room node len l : ℕ) → answer_of nodes room node len ≡ NotFound l → (node ≤ nodes) × (l ≡ len)
-unfolding answer_of
-answer_nothing nodes room node len l =
-    by (leb node nodes) (ltb node (nodes + 16)) (ltb (offset_of nodes node) room) refl
-  where
-    by :
-        (a b c : Bool) → leb node nodes ≡ a → cond a (NotFound len) (cond b Invalid (cond c (Found (offset_of nodes node) len) Invalid)) ≡ NotFound l
-        → (node ≤ nodes) × (l ≡ len)
-    by true b c f e = (leb-true _ _ f, cc)
-    by false true c f e = let z : ◌≡◌ {A = ℕ} 0 1 = cc in absurd (omega arith)
-    by false false true f e = let z : ◌≡◌ {A = ℕ} 0 1 = cc in absurd (omega arith)
-    by false false false f e = let z : ◌≡◌ {A = ℕ} 0 1 = cc in absurd (omega arith)
+module _ (nodes room node len : ℕ) (a : Found) where
+  fields : {b : Found} → Some b ≡ Some a → (b.offset ≡ a.offset) × (b.len ≡ a.len)
+  fields {b} e = let q : b ≡ a = cc in (ap (λ (f : Found). f.offset) q, ap (λ (f : Found). f.len) q)
+
+  pub answer_length : answer_of nodes room node len ≡ Some a → a.len ≡ len
+  unfolding answer_of
+  answer_length = by (leb node nodes) (ltb node (nodes + 16)) (ltb (offset_of nodes node) room)
+    where
+      by :
+          (x y z : Bool) → cond x (Some (found None len)) (cond y None (cond z (Some (found (Some (offset_of nodes node)) len)) None)) ≡ Some a
+          → a.len ≡ len
+      by true y z e = sym (fields e).1
+      by false true z e = cc
+      by false false true e = sym (fields e).1
+      by false false false e = cc
+
+  pub answer_nothing : answer_of nodes room node len ≡ Some a → a.offset ≡ None → node ≤ nodes
+  unfolding answer_of
+  answer_nothing = by (leb node nodes) (ltb node (nodes + 16)) (ltb (offset_of nodes node) room) refl
+    where
+      by :
+          (x y z : Bool) → leb node nodes ≡ x
+          → cond x (Some (found None len)) (cond y None (cond z (Some (found (Some (offset_of nodes node)) len)) None)) ≡ Some a
+          → a.offset ≡ None → node ≤ nodes
+      by true y z f e o = leb-true _ _ f
+      by false true z f e o = cc
+      by false false true f e o = let s : Some (offset_of nodes node) ≡ None = (fields e).0 ∙ o in cc
+      by false false false f e o = cc
+
+-- a value refuses to be looked at only by 14
+malformed_on : (h : Option Head) (e : Refusal) → empty_on h ≡ Err e → e ≡ refusal.Malformed
+malformed_on (Some h) e q = cc
+malformed_on None e q = cc
+
+malformed_at : (d : List ℕ) (offset : ℕ) (e : Refusal) → empty_at d offset ≡ Err e → e ≡ refusal.Malformed
+unfolding empty_at
+malformed_at d offset = malformed_on (behind_at d offset)
 
 module _ (s : List ℕ) (h : Handle) (width : ℕ) where
   abbrev child : Place → ℕ → Place
@@ -180,7 +205,7 @@ module _ (s : List ℕ) (h : Handle) (width : ℕ) where
             by false a u = rw u
 
         -- a node at full width
-        deep : p.value < h.nodes → width ≤ p.len → Told (Out (Failed too_deep))
+        deep : p.value < h.nodes → width ≤ p.len → Told (Out (Failed refusal.TooDeep))
         deep v l =
             let ne : p.value ≡ h.nodes → ⊥ = λ e. omega arith in
             let nothing = answer_none h.nodes (length d) p.len p.value (omega arith) in
@@ -192,39 +217,42 @@ module _ (s : List ℕ) (h : Handle) (width : ℕ) where
           alone : ends_from s h width p ≡ here ∷ []
           alone = ends_here (width - p.len) false p v
 
-          found : (offset len : ℕ) → answer_at d h width p ≡ Found offset len → (e : Bool) → o.skipempty ≡ e → (m : Emptiness) → empty_at d offset ≡ m
-              → Told (cond e (unless_empty m (network_of h width p (At offset))) (Out (Given (network_of h width p (At offset)))))
-          found offset len a e f m g =
+          full : (offset len : ℕ) → answer_at d h width p ≡ Some (found (Some offset) len) → (e : Bool) → o.skipempty ≡ e
+              → (m : Result Bool Refusal) → empty_at d offset ≡ m
+              → Told (cond e (unless_empty m (network_of h width p (Some offset))) (Out (Given (network_of h width p (Some offset)))))
+          full offset len a e f m g =
               let ne : p.value ≡ h.nodes → ⊥ = λ q. omega (arith, (answer_found h.nodes (length d) p.len p.value offset len a).1) in
               by e f m g (ne_eqb _ _ ne)
             where
-              by : (e : Bool) → o.skipempty ≡ e → (m : Emptiness) → empty_at d offset ≡ m → eqb p.value h.nodes ≡ false
-                  → Told (cond e (unless_empty m (network_of h width p (At offset))) (Out (Given (network_of h width p (At offset)))))
-              by true f Empty g n = dropped alone (simp (unskipped, n, and-false, f, a, g))
-              by true f Holds g n = kept alone (simp (unskipped, n, and-false, f, a, g)) ∙ simp (f, a, g, le-ltb _ _ v)
-              by true f Malformed g n = kept alone (simp (unskipped, n, and-false, f, a, g)) ∙ simp (f, a, g)
+              by : (e : Bool) → o.skipempty ≡ e → (m : Result Bool Refusal) → empty_at d offset ≡ m → eqb p.value h.nodes ≡ false
+                  → Told (cond e (unless_empty m (network_of h width p (Some offset))) (Out (Given (network_of h width p (Some offset)))))
+              by true f (Ok true) g n = dropped alone (simp (unskipped, n, and-false, f, a, g))
+              by true f (Ok false) g n = kept alone (simp (unskipped, n, and-false, f, a, g)) ∙ simp (f, a, g, le-ltb _ _ v)
+              by true f (Err e) g n = kept alone (simp (unskipped, n, and-false, f, a, g)) ∙ simp (f, a, g) (ap (λ (r : Refusal). Failed r ∷ []) (sym (malformed_at d offset e g)))
               by false f m g n = kept alone (simp (unskipped, n, and-false, f)) ∙ simp (f, a, le-ltb _ _ v)
 
-          missing : (len : ℕ) → answer_at d h width p ≡ NotFound len → (b : Bool) → o.dataless ≡ b → Told (cond b (Out (Given (network_of h width p None))) Passed)
+          missing : (len : ℕ) → answer_at d h width p ≡ Some (found None len) → (b : Bool) → o.dataless ≡ b → Told (cond b (Out (Given (network_of h width p None))) Passed)
           missing len a true f = kept alone (simp (unskipped, f, a, and-false)) ∙ simp (a, and-false, le-ltb _ _ v)
           missing len a false f =
-              let none : p.value ≡ h.nodes = omega (arith, (answer_nothing h.nodes (length d) p.value p.len len a).0) in
+              let none : p.value ≡ h.nodes = omega (arith, answer_nothing h.nodes (length d) p.value p.len (found None len) a refl) in
               dropped alone (simp (unskipped, f, eq-eqb _ _ none))
 
-          ended : (a : Answer) → answer_at d h width p ≡ a → Told (end_of d h o width p a)
-          ended (Found offset len) a = found offset len a o.skipempty refl (empty_at d offset) refl
-          ended (NotFound len) a = missing len a o.dataless refl
-          ended Invalid a =
+          ended_at : (offset : Option ℕ) (len : ℕ) → answer_at d h width p ≡ Some (found offset len) → Told (end_at d h o width p offset)
+          ended_at (Some offset) len a = full offset len a o.skipempty refl (empty_at d offset) refl
+          ended_at None len a = missing len a o.dataless refl
+
+          ended : (a : Option Found) → answer_at d h width p ≡ a → Told (end_of d h o width p a)
+          ended (Some f) a = ended_at f.offset f.len a
+          ended None a =
               let ne : p.value ≡ h.nodes → ⊥ = λ e.
               let n = answer_none h.nodes (length d) p.len p.value (omega arith) in
-              let z : ◌≡◌ {A = ℕ} 0 1 = cc in
-              omega arith
+              cc
               in
               kept alone (simp (unskipped, ne_eqb _ _ ne, a, and-false)) ∙ simp (a, and-false, le-ltb _ _ v)
 
       told_by_lem :
           (b i l : Bool) → is_skipped h o width p ≡ b → ltb p.value h.nodes ≡ i → ltb p.len width ≡ l
-          → Told (cond b Passed (cond i (cond l Opened (Out (Failed too_deep))) (end_of d h o width p (answer_at d h width p))))
+          → Told (cond b Passed (cond i (cond l Opened (Out (Failed refusal.TooDeep))) (end_of d h o width p (answer_at d h width p))))
       told_by_lem true i l e f g = by o.aliased (is_alias h width p) refl refl e
         where
           by : (a b : Bool) → o.aliased ≡ a → is_alias h width p ≡ b → (not a && b) ≡ true → hands p ≡ []

@@ -9,22 +9,20 @@ use native.Mathlib.Omega.{arith}
 use lib.ListN.{length}
 use lib.Dec.{eqb, ltb}
 use borrow.Author.Tests.{eqb-true, eqb-false}
-use Rattle.refusal.specs.Refusals.{too_deep}
+use Rattle.std.specs.Prelude.{Option, Some, None}
+use Rattle.refusal.specs.declared.Refusal.TheVariants as refusal
 use Rattle.number.specs.Keys.{number_of, key_of, masked_to}
 use Rattle.handle.specs.declared.Handle.{Handle}
 use Rattle.handle.specs.Handle.{fits_of}
 use Rattle.handle.proofs.HandleLaws.{fit}
 use Rattle.tree.specs.Lookup.{down}
-use Rattle.tree.specs.declared.Answer.{Answer}
-use Rattle.tree.specs.declared.Answer.TheVariants.{Found, NotFound, Invalid}
+use Rattle.tree.specs.declared.Found.{Found}
 use Rattle.tiles.specs.Tiles.{Tile, leaves, networks}
 use Rattle.tiles.proofs.ListLaws.{all_each, only_all}
 use Rattle.place.specs.Kinds.{kind_of}
 use Rattle.place.specs.Turns.{network_of}
 use Rattle.place.specs.declared.Place.{Place}
 use Rattle.place.specs.declared.Network.{Network}
-use Rattle.place.specs.declared.Offset.{Offset}
-use Rattle.place.specs.declared.Offset.TheVariants.{At, None}
 use Rattle.place.specs.declared.Outcome.{Outcome}
 use Rattle.place.specs.declared.Outcome.TheVariants.{Given, Failed}
 use Rattle.walk.specs.declared.Range.TheVariants.{Ipv4, Ipv6}
@@ -53,17 +51,16 @@ module _ (d : List ℕ) (h : Handle) (p : Place) (long : p.len ≤ width_of h) (
   whole_length : width_of h - (width_of h - p.len) ≡ p.len
   whole_length = omega arith
 
-  network_same : (o : Offset) → network_of h (width_of h) p o ≡ network_for h (length d) (tile_at (width_of h) p) o
+  network_same : (o : Option ℕ) → network_of h (width_of h) p o ≡ network_for h (length d) (tile_at (width_of h) p) o
   network_same o = rw (kind, whole_length)
 
-  shown_same : (a : Answer) → shown_by d h (width_of h) p a ≡ shown h (length d) (tile_at (width_of h) p) a
-  shown_same (Found offset len) = ap (λ (n : Network). Given n) (network_same (At offset))
-  shown_same (NotFound len) = ap (λ (n : Network). Given n) (network_same None)
-  shown_same Invalid = refl
+  shown_same : (a : Option Found) → shown_by d h (width_of h) p a ≡ shown h (length d) (tile_at (width_of h) p) a
+  shown_same (Some f) = ap (λ (n : Network). Given n) (network_same f.offset)
+  shown_same None = refl
 
   pub outcome_same : outcome_at d h (width_of h) p ≡ outcome_of h (length d) (tile_at (width_of h) p)
   outcome_same =
-      rw whole_length (ap (cond (ltb p.value h.nodes) (Failed too_deep)) (shown_same (answer_at d h (width_of h) p)))
+      rw whole_length (ap (cond (ltb p.value h.nodes) (Failed refusal.TooDeep)) (shown_same (answer_at d h (width_of h) p)))
 
 module _ (s : List ℕ) (h : Handle) where
   abbrev pub room : ℕ

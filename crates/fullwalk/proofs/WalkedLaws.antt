@@ -6,7 +6,8 @@ use mathlib.Core.List.{List, [], ◌∷◌, ◌++◌, append_assoc, append-nil}
 use native.Mathlib.Omega.{arith}
 use lib.ListN.{length, length-set}
 use lib.Dec.{leb}
-use Rattle.refusal.specs.Refusals as refusal
+use Rattle.std.specs.Prelude.{Ok}
+use Rattle.refusal.specs.declared.Refusal.TheVariants as refusal
 use Rattle.handle.specs.declared.Handle.{Handle}
 use Rattle.handle.specs.Handle.{fits_of}
 use Rattle.place.specs.Turns.{child_of}
@@ -19,7 +20,6 @@ use Rattle.place.proofs.TurnLaws.{Handed, network, failure, handed_only, opened,
 use Rattle.walk.specs.declared.Range.{Range}
 use Rattle.walk.specs.declared.Walk.{Walk}
 use Rattle.walk.specs.declared.Started.{Started}
-use Rattle.walk.specs.declared.Status.TheVariants.{Begun}
 use Rattle.walk.specs.declared.Called.{Called}
 use Rattle.walk.specs.Walks.{walk_from, newest, taken, added}
 use Rattle.walk.specs.Starts.{asked_of, is_ipv6_in_ipv4, first_of, refused_start, begun_with, begin_of}
@@ -111,7 +111,7 @@ module _ (s : List ℕ) (h : Handle) where
       (record {
         end = λ n t w z g. record { fine = g; all = refl; ended = λ e. below_none (comes w) w z };
         out = λ n t w l f g. absurd (false≢true (sym (in_shape_lem h.nodes w g l) ∙ f));
-        paused = λ t w r g. record { fine = g; all = refl; ended = λ e. absurd (let z : ◌≡◌ {A = ℕ} 0 1 = cc in omega arith) };
+        paused = λ t w r g. record { fine = g; all = refl; ended = λ e. absurd (cc) };
         handed = λ n t w a r e g.
             let d = out_handed data_of h w.options w.width (newest w) a e in
             record {
@@ -155,7 +155,7 @@ module _ (s : List ℕ) (h : Handle) where
     given_from p width o e g k = walked k g ∙ ap waits e ∙ waits_one p width o
 
     module _ (r : Range) (o : Options) where
-      begun_at : (begin_of s h r o).status ≡ Begun → (begin_of s h r o).walk ≡ (begun_with (first_of s h (asked_of r)) o).walk
+      begun_at : (begin_of s h r o).status ≡ Ok tt → (begin_of s h r o).walk ≡ (begun_with (first_of s h (asked_of r)) o).walk
       unfolding begin_of
       begun_at = pick (fits_of h (length s)) (leb (asked_of r).len (asked_of r).width) (is_ipv6_in_ipv4 h (asked_of r).width)
         where
@@ -163,17 +163,17 @@ module _ (s : List ℕ) (h : Handle) where
           first = begun_with (first_of s h (asked_of r)) o
 
           all : Bool → Bool → Bool → Started
-          all x y z = cond x (cond y (cond z (refused_start refusal.ipv6_in_ipv4) first) (refused_start refusal.prefix_length)) (refused_start refusal.handle)
+          all x y z = cond x (cond y (cond z (refused_start refusal.Ipv6InIpv4) first) (refused_start refusal.PrefixLength)) (refused_start refusal.Handle)
 
-          pick : (x y z : Bool) → (all x y z).status ≡ Begun → (all x y z).walk ≡ first.walk
-          pick true true true e = let z : ◌≡◌ {A = ℕ} 0 1 = cc in absurd (omega arith)
+          pick : (x y z : Bool) → (all x y z).status ≡ Ok tt → (all x y z).walk ≡ first.walk
+          pick true true true e = cc
           pick true true false e = refl
-          pick true false z e = let z : ◌≡◌ {A = ℕ} 0 1 = cc in absurd (omega arith)
-          pick false y z e = let z : ◌≡◌ {A = ℕ} 0 1 = cc in absurd (omega arith)
+          pick true false z e = cc
+          pick false y z e = cc
 
       -- whatever the range, the options and the budgets
       pub all_given :
-          Addressed r → (begin_of s h r o).status ≡ Begun → {l : List Outcome} → Walked s h (begin_of s h r o).walk l
+          Addressed r → (begin_of s h r o).status ≡ Ok tt → {l : List Outcome} → Walked s h (begin_of s h r o).walk l
           → l ≡ (let f = first_of s h (asked_of r) in given_of data_of h f.width o (ends_from s h f.width f.place))
       all_given a b w =
           let f = first_of s h (asked_of r) in

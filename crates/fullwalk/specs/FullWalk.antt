@@ -1,18 +1,16 @@
 -- A walk of all addresses, carried on to its end, and what it hands out.
-use Rattle.std.specs.Prelude.{ℕ, ◌+◌, ◌-◌, ◌^◌, ◌≤◌, ◌<◌, ◌≡◌, true, false, cond, List, [], ◌∷◌, ◌++◌, map, length, eqb, ltb}
-use Rattle.refusal.specs.Refusals.{bad_record, too_deep}
+use Rattle.std.specs.Prelude.{Option, ℕ, ◌+◌, ◌-◌, ◌^◌, ◌≤◌, ◌<◌, ◌≡◌, true, false, cond, List, [], ◌∷◌, ◌++◌, map, length, eqb, ltb}
+use Rattle.std.specs.Prelude as option
+use Rattle.refusal.specs.declared.Refusal.TheVariants as refusal
 use Rattle.number.specs.Keys.{number_of, key_of}
 use Rattle.handle.specs.declared.Handle.{Handle}
-use Rattle.tree.specs.Lookup.{answer_of}
-use Rattle.tree.specs.declared.Answer.{Answer}
-use Rattle.tree.specs.declared.Answer.TheVariants.{Found, NotFound, Invalid}
+use Rattle.tree.specs.Lookup.{found, answer_of}
+use Rattle.tree.specs.declared.Found.{Found}
 use Rattle.tiles.specs.Lists.{All, Some, Once, Ordered}
 use Rattle.tiles.specs.Tiles.{Tile, networks, path, Faulty}
 use Rattle.place.specs.Kinds.{kind_of}
 use Rattle.place.specs.declared.Options.{Options}
 use Rattle.place.specs.declared.Network.{Network}
-use Rattle.place.specs.declared.Offset.{Offset}
-use Rattle.place.specs.declared.Offset.TheVariants.{At, None}
 use Rattle.place.specs.declared.Outcome.{Outcome}
 use Rattle.place.specs.declared.Outcome.TheVariants.{Given, Failed, Refused, Paused, End}
 use Rattle.walk.specs.declared.Range.{Range}
@@ -61,7 +59,7 @@ module _ (h : Handle) (room : ℕ) where
   abbrev pub length_of : Tile → ℕ
   length_of t = width_of h - t.rest
 
-  abbrev pub network_for : Tile → Offset → Network
+  abbrev pub network_for : Tile → Option ℕ → Network
   network_for t offset =
       record {
         key = key_of t.key;
@@ -71,21 +69,19 @@ module _ (h : Handle) (room : ℕ) where
       }
 
   -- what is to be handed out for a network of the tree, by what its addresses' paths end in
-  abbrev pub shown : Tile → Answer → Outcome
-  shown t (Found offset len) = Given (network_for t (At offset))
-  shown t (NotFound len) = Given (network_for t None)
-  shown t Invalid = Failed bad_record
+  abbrev pub shown : Tile → Option Found → Outcome
+  shown t (option.Some f) = Given (network_for t f.offset)
+  shown t option.None = Failed refusal.Record
 
   abbrev pub outcome_of : Tile → Outcome
   outcome_of t =
-      cond (ltb t.node h.nodes) (Failed too_deep)
+      cond (ltb t.node h.nodes) (Failed refusal.TooDeep)
       (shown t (answer_of h.nodes room t.node (length_of t)))
 
 -- the networks of the whole tree, where no path is faulty
-abbrev pub offset_in : Answer → Offset
-offset_in (Found offset len) = At offset
-offset_in (NotFound len) = None
-offset_in Invalid = None
+abbrev pub offset_in : Option Found → Option ℕ
+offset_in (option.Some f) = f.offset
+offset_in option.None = option.None
 
 abbrev pub tree_networks : List ℕ → Handle → List Network
 tree_networks s h =
@@ -101,12 +97,11 @@ abbrev pub Precedes : ℕ → Network → Network → Type 0
 Precedes width n m = number_of n.key + 2 ^ (width - n.len) ≤ number_of m.key
 
 -- a network's length and offset, or no data, as a lookup answers
-abbrev pub told_by : ℕ → Offset → Answer
-told_by len (At offset) = Found offset len
-told_by len None = NotFound len
+abbrev pub told_by : ℕ → Option ℕ → Option Found
+told_by len offset = option.Some (found offset len)
 
 -- the lookup of an address
-abbrev pub lookup : List ℕ → Handle → ℕ → Answer
+abbrev pub lookup : List ℕ → Handle → ℕ → Option Found
 lookup s h x =
     let p = path s h.size h.nodes (width_of h) x in
     answer_of h.nodes (length (data_section s h)) p.node p.depth
