@@ -8,7 +8,8 @@ use native.Mathlib.Omega.{arith}
 use lib.ListN.{length}
 use lib.Dec.{eqb, ltb, leb}
 use borrow.Author.Tests.{ltb-false, leb-true}
-use Rattle.refusal.specs.Refusals as refusal
+use Rattle.std.specs.Prelude.{Ok}
+use Rattle.refusal.specs.declared.Refusal.TheVariants as refusal
 use Rattle.number.specs.Keys.{number_of, masked_to}
 use Rattle.handle.specs.declared.Handle.{Handle}
 use Rattle.handle.specs.Handle.{fits_of}
@@ -22,7 +23,6 @@ use Rattle.walk.specs.declared.Range.TheVariants.{Ipv4, Ipv6}
 use Rattle.walk.specs.declared.Asked.{Asked}
 use Rattle.walk.specs.declared.First.{First}
 use Rattle.walk.specs.declared.Started.{Started}
-use Rattle.walk.specs.declared.Status.TheVariants.{Begun}
 use Rattle.walk.specs.Starts.{asked_of, range_key, is_ipv6_in_ipv4, lacks_subtree, start_node, way_to, first_of, refused_start, begun_with, begin_of}
 use Rattle.walk.specs.Calls.{data_section}
 use Rattle.carried.specs.Carried.{Addressed}
@@ -108,8 +108,8 @@ module _ (s : List ℕ) (h : Handle) where
   module _ (r : Range) where
     abbrev started : Bool → Bool → Bool → Options → Started
     started x y z o =
-        cond x (cond y (cond z (refused_start refusal.ipv6_in_ipv4) (begun_with (first_of s h (asked_of r)) o)) (refused_start refusal.prefix_length))
-        (refused_start refusal.handle)
+        cond x (cond y (cond z (refused_start refusal.Ipv6InIpv4) (begun_with (first_of s h (asked_of r)) o)) (refused_start refusal.PrefixLength))
+        (refused_start refusal.Handle)
 
     -- a walk that was begun: the handle fits, the range has no more bits than its width and suits the image, and it is begun whatever
     -- the options
@@ -117,19 +117,19 @@ module _ (s : List ℕ) (h : Handle) where
       pub fits : fits_of h (length s) ≡ true
       pub within : (asked_of r).len ≤ (asked_of r).width
       pub allowed : is_ipv6_in_ipv4 h (asked_of r).width ≡ false
-      pub always : (o : Options) → (begin_of s h r o).status ≡ Begun
+      pub always : (o : Options) → (begin_of s h r o).status ≡ Ok tt
 
-    pub starts : (o : Options) → (begin_of s h r o).status ≡ Begun → Starts
+    pub starts : (o : Options) → (begin_of s h r o).status ≡ Ok tt → Starts
     unfolding begin_of
     starts o = by (fits_of h (length s)) (leb (asked_of r).len (asked_of r).width) (is_ipv6_in_ipv4 h (asked_of r).width) refl refl refl
       where
         by :
             (x y z : Bool) → fits_of h (length s) ≡ x → leb (asked_of r).len (asked_of r).width ≡ y → is_ipv6_in_ipv4 h (asked_of r).width ≡ z
-            → (started x y z o).status ≡ Begun → Starts
-        by true true true e f g b = let z : ◌≡◌ {A = ℕ} 0 1 = cc in absurd (omega arith)
+            → (started x y z o).status ≡ Ok tt → Starts
+        by true true true e f g b = cc
         by true true false e f g b = record { fits = e; within = leb-true _ _ f; allowed = g; always = λ o. simp (e, f, g) }
-        by true false z e f g b = let z : ◌≡◌ {A = ℕ} 0 1 = cc in absurd (omega arith)
-        by false y z e f g b = let z : ◌≡◌ {A = ℕ} 0 1 = cc in absurd (omega arith)
+        by true false z e f g b = cc
+        by false y z e f g b = cc
 
     module _ (ad : Addressed r) (b : Starts) where
       pub fair : Fair (first s h r).width (first s h r).place
@@ -148,5 +148,5 @@ module _ (s : List ℕ) (h : Handle) where
           }
 
 -- whatever the image, the handle and the range, if walks of it begin
-pub choices : (s : List ℕ) (h : Handle) (r : Range) (o : Options) → Addressed r → (begin_of s h r o).status ≡ Begun → Choices s h r
+pub choices : (s : List ℕ) (h : Handle) (r : Range) (o : Options) → Addressed r → (begin_of s h r o).status ≡ Ok tt → Choices s h r
 choices s h r o ad b = chosen s h r ad (starts s h r o b)

@@ -14,19 +14,18 @@ use Rattle.tree.specs.Lookup.{down, answer_of, ipv4_start_of}
 use Rattle.tree.specs.declared.Place.{Place}
 use Rattle.tree.proofs.LookupLaws.{place, deeper, ipv4_way}
 use Rattle.lookup.specs.Lookup.{asked_of, numbered, found_from}
-use Rattle.lookup.specs.declared.Found.{Found}
+use Rattle.tree.specs.declared.Found.{Found}
+use Rattle.refusal.specs.declared.Refusal.{Refusal}
 use Rattle.lookup.specs.declared.Address.{Address}
 use Rattle.lookup.specs.declared.Address.TheVariants.{V4, V6}
 use Rattle.maxminddb.specs.Entries.{lookup_of}
 use Rattle.opening.specs.Opening.{open_of}
 use Rattle.opening.specs.declared.Reader.{Reader}
-use Rattle.opening.specs.declared.Opened.TheVariants.{Is}
+use Rattle.std.specs.Prelude.{Option, Result, Ok}
 use Rattle.opening.proofs.OpeningLaws.{is_open, open_fits}
 use Rattle.tiles.specs.Tiles.{path}
 use Rattle.tiles.proofs.ListLaws.{all_map}
 use Rattle.place.specs.declared.Network.{Network}
-use Rattle.place.specs.declared.Offset.{Offset}
-use Rattle.place.specs.declared.Offset.TheVariants.{At, None}
 use Rattle.walk.specs.Calls.{data_section}
 use Rattle.fullwalk.specs.FullWalk.{width_of, tree_networks, Covers, told_by, lookup}
 use Rattle.fullwalk.proofs.FullWalkLaws.{whole_tree}
@@ -38,7 +37,7 @@ pub record FromOpening (image : List ℕ) (h : Handle) : Type 0 where
   pub fits : fits_of h (length image) ≡ true
   pub start : h.version ≡ 6 → ipv4_start_of image h.size h.nodes ≡ place h.start4 h.depth4
 
-pub from_opening : (image : List ℕ) → ((i : ℕ) → get_or image i 0 < 256) → {r : Reader} → open_of image ≡ Is r → FromOpening image r.handle
+pub from_opening : (image : List ℕ) → ((i : ℕ) → get_or image i 0 < 256) → {r : Reader} → open_of image ≡ Ok r → FromOpening image r.handle
 from_opening image bytes {r} e =
     let o = is_open image e in
     record {
@@ -46,9 +45,8 @@ from_opening image bytes {r} e =
       start = rw o.reader (λ v. rw v refl);
     }
 
-told_found : (len : ℕ) (o : Offset) → numbered (told_by len o) ≡ found_by len o
-told_found len (At offset) = refl
-told_found len None = refl
+told_found : (len : ℕ) (o : Option ℕ) → numbered (told_by len o) ≡ found_by len o
+told_found len o = refl
 
 module _ (image : List ℕ) (h : Handle) where
   -- the data section is as long as its ends say
@@ -57,7 +55,7 @@ module _ (image : List ℕ) (h : Handle) where
       simp (length-take, length-drop) (omega (arith, f.whole, f.marked))
 
   -- the answer of the way that ends at a place, as a lookup numbers it
-  abbrev answered : Place → Found
+  abbrev answered : Place → Result Found Refusal
   answered p = numbered (answer_of h.nodes (h.meta - 14 - h.base) p.node p.depth)
 
   module _ (o : FromOpening image h) where

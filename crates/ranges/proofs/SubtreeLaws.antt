@@ -12,17 +12,15 @@ use lib.Bits.{or_lt}
 use borrow.Author.Tests.{le-leb}
 use Rattle.number.specs.Keys.{number_of, key_of, with_bit}
 use Rattle.handle.specs.declared.Handle.{Handle}
-use Rattle.refusal.specs.Refusals.{too_deep}
-use Rattle.tree.specs.Lookup.{offset_of, answer_of}
-use Rattle.tree.specs.declared.Answer.{Answer}
-use Rattle.tree.specs.declared.Answer.TheVariants.{Found, NotFound, Invalid}
+use Rattle.std.specs.Prelude.{Option, Some, None}
+use Rattle.refusal.specs.declared.Refusal.TheVariants as refusal
+use Rattle.tree.specs.Lookup.{found, offset_of, answer_of}
+use Rattle.tree.specs.declared.Found.{Found}
 use Rattle.tiles.specs.Tiles.{Tile}
 use Rattle.place.specs.Kinds.{has_ipv4_subtree, kind_of}
 use Rattle.place.specs.Turns.{child_key, child_of, network_of}
 use Rattle.place.specs.declared.NetworkKind.TheVariants.{V4, V4InV6Subtree}
 use Rattle.place.specs.declared.Place.{Place}
-use Rattle.place.specs.declared.Offset.{Offset}
-use Rattle.place.specs.declared.Offset.TheVariants.{At, None}
 use Rattle.place.specs.declared.Outcome.{Outcome}
 use Rattle.place.specs.declared.Outcome.TheVariants.{Given, Failed}
 use Rattle.walk.specs.Calls.{data_section}
@@ -76,7 +74,7 @@ module _ (s : List ℕ) (h : Handle) (op : FromOpening s h) where
       unfolding kind_of
       ipv4_there = rw has (simp and-false)
 
-      network_over : (o : Offset) → Given (network_of h 32 p o) ≡ from_subtree h (Given (network_for h room t o))
+      network_over : (o : Option ℕ) → Given (network_of h 32 p o) ≡ from_subtree h (Given (network_for h room t o))
       network_over o =
           let n : counted h (length_of h room t) ≡ p.len = omega (arith, at_96, length_there) in
           rw (ipv4_there, in_subtree, n)
@@ -85,13 +83,13 @@ module _ (s : List ℕ) (h : Handle) (op : FromOpening s h) where
       unfolding answer_of
       shown_over x y = by (leb p.value h.nodes) (ltb p.value (h.nodes + 16)) (ltb (offset_of h.nodes p.value) room)
         where
-          said : Bool → Bool → Bool → ℕ → Answer
-          said a b c n = cond a (NotFound n) (cond b Invalid (cond c (Found (offset_of h.nodes p.value) n) Invalid))
+          said : Bool → Bool → Bool → ℕ → Option Found
+          said a b c n = cond a (Some (found None n)) (cond b None (cond c (Some (found (Some (offset_of h.nodes p.value)) n)) None))
 
           by : (a b c : Bool) → shown_by (data_section s h) h 32 p (said a b c x) ≡ from_subtree h (shown h room t (said a b c y))
           by true b c = network_over None
           by false true c = refl
-          by false false true = network_over (At (offset_of h.nodes p.value))
+          by false false true = network_over (Some (offset_of h.nodes p.value))
           by false false false = refl
 
       outcome_over : outcome_at (data_section s h) h 32 p ≡ from_subtree h (outcome_of h room t)
@@ -99,7 +97,7 @@ module _ (s : List ℕ) (h : Handle) (op : FromOpening s h) where
           by (ltb p.value h.nodes) (shown_by (data_section s h) h 32 p (answer_at (data_section s h) h 32 p))
           (shown h room t (answer_of h.nodes room p.value (length_of h room t))) (shown_over p.len (length_of h room t))
         where
-          by : (c : Bool) (x y : Outcome) → x ≡ from_subtree h y → cond c (Failed too_deep) x ≡ from_subtree h (cond c (Failed too_deep) y)
+          by : (c : Bool) (x y : Outcome) → x ≡ from_subtree h y → cond c (Failed refusal.TooDeep) x ≡ from_subtree h (cond c (Failed refusal.TooDeep) y)
           by true x y e = refl
           by false x y e = e
 

@@ -1,16 +1,15 @@
 -- A full walk of an image, lookups by the public definition.
-use Rattle.std.specs.Prelude.{ℕ, ◌^◌, ◌<◌, ◌≡◌, List, map, length}
+use Rattle.std.specs.Prelude.{ℕ, ◌^◌, ◌<◌, ◌≡◌, List, map, length, Option, Result, Ok}
 use Rattle.number.specs.Keys.{number_of}
 use Rattle.handle.specs.declared.Handle.{Handle}
 use Rattle.lookup.specs.declared.Address.{Address}
 use Rattle.lookup.specs.declared.Address.TheVariants.{V4, V6}
-use Rattle.lookup.specs.declared.Found.{Found}
-use Rattle.lookup.specs.declared.Found.TheVariants.{Data, NoData}
+use Rattle.refusal.specs.declared.Refusal.{Refusal}
+use Rattle.tree.specs.Lookup.{found}
+use Rattle.tree.specs.declared.Found.{Found}
 use Rattle.maxminddb.specs.Entries.{lookup_of}
 use Rattle.tiles.specs.Lists.{All, Some, Once, Ordered}
 use Rattle.tiles.specs.Tiles.{networks}
-use Rattle.place.specs.declared.Offset.{Offset}
-use Rattle.place.specs.declared.Offset.TheVariants.{At, None}
 use Rattle.place.specs.declared.Outcome.{Outcome}
 use Rattle.place.specs.declared.Outcome.TheVariants.{Given}
 use Rattle.walk.specs.Calls.{data_section}
@@ -27,9 +26,8 @@ Askable h (V4 low) = low < 2 ^ 32
 Askable h (V6 high low) = h.version ≡ 6
 
 -- a network's length and offset, or no data, as a lookup answers
-abbrev pub found_by : ℕ → Offset → Found
-found_by len (At offset) = Data offset len
-found_by len None = NoData len
+abbrev pub found_by : ℕ → Option ℕ → Result Found Refusal
+found_by len offset = Ok (found offset len)
 
 -- all that a full walk of an image without error has handed out: the networks are the tree's own, they ascend, each address
 -- lies in exactly one, and looking it up (an IPv4 address of an IPv6 tree by its key) gives that network's length and offset,
