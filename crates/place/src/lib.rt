@@ -77,36 +77,34 @@ pub fn has_ipv4_subtree(h: Handle) -> bool
     h.version == 6 && h.start4 < h.nodes
 }
 
+#[tactic(auto, unfolding(crate::specs::Kinds::is_alias))]
 fn is_alias(h: Handle, width: u64, p: Place) -> bool
     ensures { result ≡ is_alias h width p }
 {
-    let key = p.key;
-    h.start4 != 0 && (p.value == h.start4 && (width == 128 && !is_ipv4_in_ipv6(key)))
+    h.start4 != 0 && p.value == h.start4 && width == 128 && !is_ipv4_in_ipv6(p.key)
 }
 
 fn in_ipv4_subtree(h: Handle, p: Place) -> bool
     ensures { result ≡ in_ipv4_subtree h p }
 {
-    let key = p.key;
-    is_ipv4_in_ipv6(key) && (has_ipv4_subtree(h) && h.depth4 <= p.len)
+    is_ipv4_in_ipv6(p.key) && has_ipv4_subtree(h) && h.depth4 <= p.len
 }
 
+#[tactic(auto, unfolding(crate::specs::Kinds::kind_of))]
 fn network_kind(h: Handle, width: u64, p: Place) -> NetworkKind
     ensures { result ≡ kind_of h width p }
 {
     if width == 32 {
-        if h.version == 6 {
-            if has_ipv4_subtree(h) {
-                return NetworkKind::V4;
-            }
-            return NetworkKind::V6;
+        if h.version == 6 && !has_ipv4_subtree(h) {
+            NetworkKind::V6
+        } else {
+            NetworkKind::V4
         }
-        return NetworkKind::V4;
+    } else if in_ipv4_subtree(h, p) {
+        NetworkKind::V4InV6Subtree
+    } else {
+        NetworkKind::V6
     }
-    if in_ipv4_subtree(h, p) {
-        return NetworkKind::V4InV6Subtree;
-    }
-    NetworkKind::V6
 }
 
 pub fn frame_out(count: u64, width: u64) -> bool
@@ -121,27 +119,23 @@ fn key_out(width: u64, key: Key) -> bool
     width == 32 && !is_ipv4_in_ipv6(key)
 }
 
+#[tactic(auto, unfolding(crate::specs::Shape::newest_out))]
 pub fn newest_out(nodes: u64, count: u64, width: u64, p: Place) -> bool
     ensures { result ≡ newest_out nodes count width p }
 {
-    let key = p.key;
-    if width < p.len {
-        return true;
-    }
-    if key_out(width, key) {
-        return true;
-    }
-    p.value < nodes && (p.len < width && count == 129)
+    width < p.len || key_out(width, p.key) || (p.value < nodes && p.len < width && count == 129)
 }
 
+#[tactic(auto, unfolding(crate::specs::Turns::child_key))]
 fn child_key(key: Key, width: u64, len: u64, bit: u64) -> Key
     requires { (len < width) × (width ≤ 128) }
     ensures { result ≡ child_key key width len bit }
 {
     if bit == 0 {
-        return key;
+        key
+    } else {
+        set_bit(key, width, len)
     }
-    set_bit(key, width, len)
 }
 
 pub fn child(s: &[u8], size: u64, width: u64, p: Place, bit: u64) -> Place
@@ -149,12 +143,9 @@ pub fn child(s: &[u8], size: u64, width: u64, p: Place, bit: u64) -> Place
     requires len_lt_width { (p.len < width) × (width ≤ 128) }
     ensures { result ≡ child_of s.now size width p bit }
 {
-    let old = p.key;
-    let key = child_key(old, width, p.len, bit);
-    let value = read_node(s, size, p.value, bit);
     Place {
-        value,
-        key,
+        value: read_node(s, size, p.value, bit),
+        key: child_key(p.key, width, p.len, bit),
         len: p.len + 1,
     }
 }
@@ -163,13 +154,10 @@ fn network_of(h: Handle, width: u64, p: Place, offset: Option<u64>) -> Network
     requires { (p.len ≤ width) × (width ≤ 128) }
     ensures { result ≡ network_of h width p offset }
 {
-    let long = p.key;
-    let key = masked(long, width, p.len);
-    let kind = network_kind(h, width, p);
     Network {
-        key,
+        key: masked(p.key, width, p.len),
         len: p.len,
-        kind,
+        kind: network_kind(h, width, p),
         offset,
     }
 }
@@ -191,6 +179,7 @@ fn is_skipped(h: Handle, options: Options, width: u64, p: Place) -> bool
 }
 
 // What taking a place comes to, over the data section.
+#[tactic(auto, unfolding(crate::specs::Turns::turn_of))]
 pub fn visit(section: &[u8], h: Handle, options: Options, width: u64, p: Place) -> Turn
     requires { (p.len ≤ width) × (width ≤ 128) }
     ensures { result ≡ turn_of section.now h options width p }
@@ -208,20 +197,11 @@ pub fn visit(section: &[u8], h: Handle, options: Options, width: u64, p: Place) 
         return Turn::Out(Outcome::Failed(Refusal::Record));
     };
     match found.offset {
-        Some(offset) => {
-            let network = network_of(h, width, p, Some(offset));
-            if options.skipempty {
-                unless_empty(is_empty_value_at(section, offset as usize), network)
-            } else {
-                Turn::Out(Outcome::Given(network))
-            }
-        }
-        None => {
-            if options.dataless {
-                Turn::Out(Outcome::Given(network_of(h, width, p, None)))
-            } else {
-                Turn::Passed
-            }
-        }
+        Some(offset) if options.skipempty => unless_empty(
+            is_empty_value_at(section, offset as usize),
+            network_of(h, width, p, Some(offset)),
+        ),
+        None if !options.dataless => Turn::Passed,
+        offset => Turn::Out(Outcome::Given(network_of(h, width, p, offset))),
     }
 }
