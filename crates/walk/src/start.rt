@@ -49,6 +49,7 @@ fn start_node(h: Handle, width: u64) -> u64
     if width == 128 { 0 } else { h.start4 }
 }
 
+#[tactic(auto, unfolding(crate::specs::Starts::first_of))]
 fn first_of(image: &[u8], h: Handle, asked: Asked) -> First
     requires image_value { fits_of h (length image.now) ≡ true }
     requires len_le_width { (asked.len ≤ asked.width) × (asked.width ≤ 128) }
@@ -122,6 +123,7 @@ fn refused_start(refusal: Refusal) -> Started
     }
 }
 
+#[tactic(auto, unfolding(crate::specs::Starts::begin_of))]
 pub fn begin(image: &[u8], h: Handle, range: Range, options: Options) -> Started
     ensures { result ≡ begin_of image.now h range options }
 {
