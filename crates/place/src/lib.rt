@@ -30,11 +30,12 @@ pub struct Options {
     pub skipempty: bool,
 }
 
-#[derive(Clone, Copy)]
+// With the numbers that a row of many networks tells.
+#[derive(Clone, Copy, PartialEq, Eq)]
 pub enum NetworkKind {
-    V4,
-    V6,
-    V4InV6Subtree,
+    V4 = 1,
+    V6 = 2,
+    V4InV6Subtree = 3,
 }
 
 // A network, and where its data stand in the data section, if it has any.

@@ -39,11 +39,7 @@ pub struct Filled {
 pub fn kind_number(kind: NetworkKind) -> u64
     ensures { result ≡ kind_number kind }
 {
-    match kind {
-        NetworkKind::V4 => 1,
-        NetworkKind::V6 => 2,
-        NetworkKind::V4InV6Subtree => 3,
-    }
+    kind as u64
 }
 
 pub fn offset_word(offset: Option<u64>) -> u64
@@ -57,21 +53,18 @@ fn put_row(out: &mut [u64], row: usize, n: Network)
     ensures { out.new ≡ put out.old row n }
 {
     let j = row * ROW_WORDS;
-    let key = n.key;
-    let kind = n.kind;
-    let offset = n.offset;
-    out[j] = key.high;
-    out[j + 1] = key.low;
+    out[j] = n.key.high;
+    out[j + 1] = n.key.low;
     out[j + 2] = n.len;
-    out[j + 3] = kind_number(kind);
-    out[j + 4] = offset_word(offset);
+    out[j + 3] = kind_number(n.kind);
+    out[j + 4] = offset_word(n.offset);
 }
 
 // Whether a value is that of a node that has children and is no alias: then taking it needs no call.
 fn is_plain_node(nodes: u64, start4: u64, width: u64, value: u64, len: u64) -> bool
     ensures { result ≡ (ltb value nodes && (not (eqb value start4) && ltb len width)) }
 {
-    value < nodes && (value != start4 && len < width)
+    value < nodes && value != start4 && len < width
 }
 
 // What taking a place comes to; one without data that is not asked for needs no call.
@@ -79,10 +72,8 @@ fn taking(section: &[u8], h: Handle, options: Options, width: u64, p: Place) -> 
     requires { (p.len ≤ width) × (width ≤ 128) }
     ensures { result ≡ turn_of section.now h options width p }
 {
-    if p.value == h.nodes {
-        if !options.dataless {
-            return Turn::Passed;
-        }
+    if p.value == h.nodes && !options.dataless {
+        return Turn::Passed;
     }
     visit(section, h, options, width, p)
 }

@@ -11,23 +11,25 @@ use place::{Options, Place, has_ipv4_subtree};
 use refusal::Refusal;
 use tree::lookup::descend;
 
-fn asked_of(range: Range) -> Asked
-    ensures { result ≡ asked_of range }
-{
-    match range {
-        Range::Ipv4 { addr, len } => Asked {
-            key: Key {
-                high: 0,
-                low: addr as u64,
+impl From<Range> for Asked {
+    ghost from_gives = { λ range asked. asked ≡ asked_of range };
+
+    fn from(range: Range) -> Asked {
+        match range {
+            Range::Ipv4 { addr, len } => Asked {
+                key: Key {
+                    high: 0,
+                    low: u64::from(addr),
+                },
+                width: 32,
+                len,
             },
-            width: 32,
-            len,
-        },
-        Range::Ipv6 { addr, len } => Asked {
-            key: addr,
-            width: 128,
-            len,
-        },
+            Range::Ipv6 { addr, len } => Asked {
+                key: addr,
+                width: 128,
+                len,
+            },
+        }
     }
 }
 
@@ -40,7 +42,7 @@ fn is_ipv6_in_ipv4(h: Handle, width: u64) -> bool
 fn lacks_subtree(h: Handle, width: u64) -> bool
     ensures { result ≡ lacks_subtree h width }
 {
-    width == 32 && (h.version == 6 && !has_ipv4_subtree(h))
+    width == 32 && h.version == 6 && !has_ipv4_subtree(h)
 }
 
 fn start_node(h: Handle, width: u64) -> u64
@@ -66,8 +68,7 @@ fn first_of(image: &[u8], h: Handle, asked: Asked) -> First
             width: 128,
         };
     }
-    let addr = asked.key;
-    let key = masked(addr, width, asked.len);
+    let key = masked(asked.key, width, asked.len);
     let node = start_node(h, width);
     let end = descend(image, h.size, h.nodes, node, key, width, asked.len);
     First {
@@ -93,8 +94,7 @@ pub fn no_place() -> Place
 fn walk_from(place: Place, width: u64, options: Options) -> Walk
     ensures { result ≡ walk_from place width options }
 {
-    let none = no_place();
-    let mut places = [none; 129];
+    let mut places = [no_place(); 129];
     places[0] = place;
     Walk {
         places,
@@ -107,11 +107,10 @@ fn walk_from(place: Place, width: u64, options: Options) -> Walk
 fn refused_start(refusal: Refusal) -> Started
     ensures { result ≡ refused_start refusal }
 {
-    let none = no_place();
     Started {
         status: Err(refusal),
         walk: Walk {
-            places: [none; 129],
+            places: [no_place(); 129],
             count: 0,
             width: 32,
             options: Options {
@@ -130,7 +129,7 @@ pub fn begin(image: &[u8], h: Handle, range: Range, options: Options) -> Started
     if !fits(h, image.len() as u64) {
         return refused_start(Refusal::Handle);
     }
-    let asked = asked_of(range);
+    let asked = Asked::from(range);
     let width = asked.width;
     if width < asked.len {
         return refused_start(Refusal::PrefixLength);
@@ -139,10 +138,8 @@ pub fn begin(image: &[u8], h: Handle, range: Range, options: Options) -> Started
         return refused_start(Refusal::Ipv6InIpv4);
     }
     let first = first_of(image, h, asked);
-    let place = first.place;
-    let walk = walk_from(place, first.width, options);
     Started {
         status: Ok(()),
-        walk,
+        walk: walk_from(first.place, first.width, options),
     }
 }
