@@ -2,20 +2,21 @@
 use Prim.Native.Nat.{ℕ, zero, suc, ◌+◌, ◌-◌, ◌*◌, ◌/◌, ◌<◌, ◌≤◌}
 use mathlib.Core.Path.{◌≡◌, refl, sym, ap, ◌∙◌, subst}
 use mathlib.Core.Bool.{true}
+use mathlib.Core.Logic.{◌⊎◌, ⊎_elim}
 use mathlib.Core.List.{List, [], ◌∷◌, ◌++◌}
 use native.Mathlib.Nat.{zero-add}
 use native.Mathlib.Omega.{arith}
 use lib.ListN.{length, get_or, set, length-set, length-take, length-drop}
 use lib.Seq.{get_or-set_same, get_or-set_other}
 use borrow.Author.Tests.{ne_eqb}
-use Rattle.refusal.specs.Refusals as refusal
+use Rattle.std.specs.Prelude.{Option, Some, None, Ok, Err}
+use Rattle.refusal.specs.declared.Refusal.{Refusal}
+use Rattle.refusal.specs.declared.Refusal.TheVariants as refusal
 use Rattle.handle.specs.declared.Handle.{Handle}
 use Rattle.handle.specs.Handle.{fits_of}
 use Rattle.handle.proofs.HandleLaws.{fit}
 use Rattle.marks.specs.Marks.{record_each, Below}
 use Rattle.place.specs.declared.Network.{Network}
-use Rattle.place.specs.declared.Offset.{Offset}
-use Rattle.place.specs.declared.Offset.TheVariants as offset
 use Rattle.place.specs.declared.Outcome.{Outcome}
 use Rattle.place.specs.declared.Outcome.TheVariants as outcome
 use Rattle.walk.specs.declared.Walk.{Walk}
@@ -24,9 +25,7 @@ use Rattle.walk.specs.declared.rows.Halt.TheVariants as halt
 use Rattle.walk.specs.Calls.{data_section, next_of}
 use Rattle.walk.specs.Rows.{no_data, kind_number, offset_word, put, put_all, Run, on_answer, run_of, Poured, poured, pouring, rows_of}
 use Rattle.carried.proofs.Paused.{within_budget}
-use Rattle.recording.specs.declared.Recorded.{Recorded}
-use Rattle.recording.specs.declared.Recorded.TheVariants.{All, Refused}
-use Rattle.recording.specs.Recording.{offsets_of, Roomy, offset_in, offsets_from, On, reply_of, Tour, on_reply, too_many_tour, toured, done, marked}
+use Rattle.recording.specs.Recording.{Recorded, offsets_of, Roomy, offset_in, offsets_from, On, reply_of, Tour, on_reply, too_many_tour, toured, done, marked}
 use Rattle.recording.proofs.TourLaws.{Inside, Told, told_next, marked_offset}
 
 -- ---- a walk by its runs
@@ -37,16 +36,16 @@ tour_on more [] rest = rest more
 tour_on zero (n ∷ l) rest = on_reply (On n.offset) too_many_tour
 tour_on (suc more) (n ∷ l) rest = on_reply (On n.offset) (tour_on more l rest)
 
-abbrev ending : Recorded → Tour
+abbrev pub ending : Recorded → Tour
 ending r = record { offsets = []; ended = r }
 
 -- a run that ended for want of room is carried on
 abbrev pub on_halt : Halt → Tour → Tour
 on_halt halt.Full rest = rest
-on_halt (halt.Failed number) rest = ending (Refused number)
-on_halt (halt.Refused number) rest = ending (Refused number)
-on_halt halt.Paused rest = ending (Refused refusal.budget)
-on_halt halt.End rest = ending All
+on_halt (halt.Failed r) rest = ending (Err r)
+on_halt (halt.Refused r) rest = ending (Err r)
+on_halt halt.Paused rest = ending (Err refusal.Budget)
+on_halt halt.End rest = ending (Ok tt)
 
 module _ (s : List ℕ) (h : Handle) where
   abbrev following : ℕ → Halt → Walk → ℕ → Tour
@@ -59,8 +58,8 @@ module _ (s : List ℕ) (h : Handle) where
   run_over : (a : Outcome) (b t : ℕ) (v : Walk) (r : Run) → Runs (on_reply (reply_of a) too_many_tour) 0 b (on_answer a t v r)
   unfolding tour_on
   run_over (outcome.Given n) b t v r = refl
-  run_over (outcome.Failed number) b t v r = refl
-  run_over (outcome.Refused number) b t v r = refl
+  run_over (outcome.Failed e) b t v r = refl
+  run_over (outcome.Refused e) b t v r = refl
   run_over outcome.Paused b t v r = refl
   run_over outcome.End b t v r = refl
 
@@ -69,8 +68,8 @@ module _ (s : List ℕ) (h : Handle) where
   run_on (outcome.Given n) more b t v r x e =
       let q : b - t - r.taken ≡ b - (t + r.taken) = omega arith in
       ap (on_reply (On n.offset)) (e ∙ ap (λ (k : ℕ). tour_on more r.networks (following k r.halt r.walk)) q)
-  run_on (outcome.Failed number) more b t v r x e = refl
-  run_on (outcome.Refused number) more b t v r x e = refl
+  run_on (outcome.Failed f) more b t v r x e = refl
+  run_on (outcome.Refused f) more b t v r x e = refl
   run_on outcome.Paused more b t v r x e = refl
   run_on outcome.End more b t v r x e = refl
 
@@ -104,14 +103,14 @@ module _ (s : List ℕ) (h : Handle) where
   unfolding Each
   bounded_next (outcome.Given n) room b t v r i p k =
       record { inside = (i, k.inside); few = omega (arith, k.few); filled = λ e. ap suc (k.filled e); paid = omega (arith, k.paid) }
-  bounded_next (outcome.Failed number) room b t v r i p k =
-      record { inside = tt; few = omega arith; filled = λ e. let z : ◌≡◌ {A = ℕ} 0 1 = cc in absurd (omega arith); paid = p }
-  bounded_next (outcome.Refused number) room b t v r i p k =
-      record { inside = tt; few = omega arith; filled = λ e. let z : ◌≡◌ {A = ℕ} 0 1 = cc in absurd (omega arith); paid = p }
+  bounded_next (outcome.Failed e) room b t v r i p k =
+      record { inside = tt; few = omega arith; filled = λ e. absurd (cc); paid = p }
+  bounded_next (outcome.Refused e) room b t v r i p k =
+      record { inside = tt; few = omega arith; filled = λ e. absurd (cc); paid = p }
   bounded_next outcome.Paused room b t v r i p k =
-      record { inside = tt; few = omega arith; filled = λ e. let z : ◌≡◌ {A = ℕ} 0 1 = cc in absurd (omega arith); paid = p }
+      record { inside = tt; few = omega arith; filled = λ e. absurd (cc); paid = p }
   bounded_next outcome.End room b t v r i p k =
-      record { inside = tt; few = omega arith; filled = λ e. let z : ◌≡◌ {A = ℕ} 0 1 = cc in absurd (omega arith); paid = p }
+      record { inside = tt; few = omega arith; filled = λ e. absurd (cc); paid = p }
 
   bounded : (room b : ℕ) (w : Walk) → Bounded room b (run_of s h room b w)
   unfolding run_of Each
@@ -158,9 +157,9 @@ unfolding put_all
 all_below [] out row j less = refl
 all_below (n ∷ l) out row j less = all_below l (put out row n) (row + 1) j (omega arith) ∙ put_below out row n j less
 
-offset_back : (m : ℕ) (o : Offset) → m ≤ no_data → Inside m o → offset_in (offset_word o) ≡ o
-offset_back m (offset.At x) u i = simp (ne_eqb x no_data (λ e. omega arith))
-offset_back m offset.None u i = refl
+offset_back : (m : ℕ) (o : Option ℕ) → m ≤ no_data → Inside m o → offset_in (offset_word o) ≡ o
+offset_back m (Some x) u i = simp (ne_eqb x no_data (λ e. omega arith))
+offset_back m None u i = refl
 
 holds_all : (m : ℕ) → m ≤ no_data → (l : List Network) (out : List ℕ) (row : ℕ) → Each m l → (row + length l) * 5 ≤ length out → Holds (put_all out row l) row l
 unfolding put_all Each Holds
@@ -181,23 +180,23 @@ pub row_none : (rows : List ℕ) (row n : ℕ) → n ≤ row → offsets_from ro
 unfolding offsets_from
 row_none rows row n le = let e : n - row ≡ 0 = omega arith in rw e
 
-pub recorded_first : (ws : List ℕ) (o : Offset) (l : List ℕ) → record_each ws (offsets_of o ++ l) ≡ record_each (record_each ws (offsets_of o)) l
+pub recorded_first : (ws : List ℕ) (o : Option ℕ) (l : List ℕ) → record_each ws (offsets_of o ++ l) ≡ record_each (record_each ws (offsets_of o)) l
 unfolding record_each
-recorded_first ws (offset.At x) l = refl
-recorded_first ws offset.None l = refl
+recorded_first ws (Some x) l = refl
+recorded_first ws None l = refl
 
 -- words that have a place for each offset
-pub roomy_first : (n : ℕ) (o : Offset) (l : List ℕ) → Below (n / 2 * 64) (offsets_of o ++ l) → Roomy n o × Below (n / 2 * 64) l
+pub roomy_first : (n : ℕ) (o : Option ℕ) (l : List ℕ) → Below (n / 2 * 64) (offsets_of o ++ l) → Roomy n o × Below (n / 2 * 64) l
 unfolding Below
-roomy_first n (offset.At x) l b = let i : x < n / 2 * 64 = b.0 in (omega arith, b.1)
-roomy_first n offset.None l b = (tt, b)
+roomy_first n (Some x) l b = let i : x < n / 2 * 64 = b.0 in (omega arith, b.1)
+roomy_first n None l b = (tt, b)
 
 -- the offsets of the rows are those of the networks
 module _ (rows : List ℕ) where
-  below_first : (m k : ℕ) (o : Offset) (l : List ℕ) → m ≤ k → Inside m o → Below k l → Below k (offsets_of o ++ l)
+  below_first : (m k : ℕ) (o : Option ℕ) (l : List ℕ) → m ≤ k → Inside m o → Below k l → Below k (offsets_of o ++ l)
   unfolding Below
-  below_first m k (offset.At x) l u i b = (omega arith, b)
-  below_first m k offset.None l u i b = b
+  below_first m k (Some x) l u i b = (omega arith, b)
+  below_first m k None l u i b = b
 
   rows_below :
       (m k : ℕ) → m ≤ k → (l : List Network) (row n : ℕ) → Holds rows row l → Each m l → n ≤ length l → Below k (offsets_from rows row n)
@@ -226,7 +225,7 @@ module _ (rows : List ℕ) where
     unfolding Holds tour_on offsets_from record_each
     rows_over [] row more ws q less = absurd (omega arith)
     rows_over (n ∷ l) row zero ws q less =
-        ap (λ (o : Offset). done too_many_tour.ended (record_each ws (offsets_of o ++ []))) q.0
+        ap (λ (o : Option ℕ). done too_many_tour.ended (record_each ws (offsets_of o ++ []))) q.0
         ∙ ap (done too_many_tour.ended) (recorded_first ws n.offset []) ∙ marked_offset ws n.offset too_many_tour
     rows_over (n ∷ l) row (suc more) ws q less =
         rw (q.0, recorded_first ws n.offset (offsets_from rows (row + 1) (suc more))) (
@@ -257,6 +256,12 @@ module _ (s : List ℕ) (h : Handle) (b : ℕ) (w : Walk) (room : ℕ) where
       → marked (on_halt e (toured s h (more - p.filled.rows) (b - p.filled.taken) p.filled.walk)) (record_each ws (offsets_from p.buffer 0 p.filled.rows))
       ≡ marked (toured s h more b w) ws
   halted p k e q more ws le = rw q at (k.within more ws le)
+
+  -- by a refusal, of a place or of the walk
+  pub halted_by :
+      (p : Poured) → Swept p → (r : Refusal) → ((p.filled.halt ≡ halt.Failed r) ⊎ (p.filled.halt ≡ halt.Refused r)) → (more : ℕ) (ws : List ℕ) → p.filled.rows ≤ more
+      → marked (ending (Err r)) (record_each ws (offsets_from p.buffer 0 p.filled.rows)) ≡ marked (toured s h more b w) ws
+  halted_by p k r d more ws le = ⊎_elim (λ e. halted p k _ e more ws le) (λ e. halted p k _ e more ws le) d
 
   module _ (fits : fits_of h (length s) ≡ true) (out : List ℕ) (space : length out / 5 ≡ room) where
     abbrev run : Run

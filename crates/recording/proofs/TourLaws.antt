@@ -6,26 +6,23 @@ use mathlib.Core.List.{List}
 use lib.ListN.{length}
 use lib.Dec.{ltb, leb}
 use borrow.Author.Tests.{ltb-true}
-use Rattle.refusal.specs.Refusals as refusal
+use Rattle.std.specs.Prelude.{Option, Some, None, Result, Ok, Err}
+use Rattle.refusal.specs.declared.Refusal.{Refusal}
+use Rattle.refusal.specs.declared.Refusal.TheVariants as refusal
 use Rattle.handle.specs.declared.Handle.{Handle}
 use Rattle.handle.specs.Handle.{fits_of}
-use Rattle.tree.specs.Lookup.{answer_of, offset_of}
-use Rattle.tree.specs.declared.Answer as way
-use Rattle.tree.specs.declared.Answer.TheVariants.{Found, NotFound, Invalid}
+use Rattle.tree.specs.Lookup.{found, answer_of, offset_of}
+use Rattle.tree.specs.declared.Found.{Found}
 use Rattle.marks.specs.Marks.{Below, record_each}
 use Rattle.value.specs.Empty.{empty_at}
-use Rattle.value.specs.declared.Emptiness.{Emptiness}
-use Rattle.value.specs.declared.Emptiness.TheVariants.{Empty, Holds, Malformed}
 use Rattle.place.specs.declared.Place.{Place}
 use Rattle.place.specs.declared.Options.{Options}
-use Rattle.place.specs.declared.Offset.{Offset}
-use Rattle.place.specs.declared.Offset.TheVariants as offset
 use Rattle.place.specs.declared.Outcome.{Outcome}
 use Rattle.place.specs.declared.Outcome.TheVariants as outcome
 use Rattle.place.specs.declared.Turn.{Turn}
 use Rattle.place.specs.declared.Turn.TheVariants.{Passed, Out, Opened}
 use Rattle.place.specs.Kinds.{is_skipped}
-use Rattle.place.specs.Turns.{network_of, unless_empty, end_of, turn_of}
+use Rattle.place.specs.Turns.{network_of, unless_empty, end_at, end_of, turn_of}
 use Rattle.walk.specs.declared.Walk.{Walk}
 use Rattle.walk.specs.Walks.{newest}
 use Rattle.walk.specs.Calls.{data_section, called, goes, next_of}
@@ -33,15 +30,15 @@ use Rattle.walk.proofs.CallLaws.{by_goes}
 use Rattle.recording.specs.Recording.{offsets_of, On, reply_of, Tour, on_reply, too_many_tour, toured, tour_of, marked}
 
 -- an offset inside a section
-abbrev pub Inside : ℕ → Offset → Type 0
-Inside len (offset.At o) = o < len
-Inside len offset.None = Unit
+abbrev pub Inside : ℕ → Option ℕ → Type 0
+Inside len (Some o) = o < len
+Inside len None = Unit
 
 -- what a call hands out: the offset of its network, if it is one, is inside the data section
 abbrev pub Told : ℕ → Outcome → Type 0
 Told len (outcome.Given n) = Inside len n.offset
-Told len (outcome.Failed number) = Unit
-Told len (outcome.Refused number) = Unit
+Told len (outcome.Failed r) = Unit
+Told len (outcome.Refused r) = Unit
 Told len outcome.Paused = Unit
 Told len outcome.End = Unit
 
@@ -50,10 +47,9 @@ ToldBy len Passed = Unit
 ToldBy len (Out a) = Told len a
 ToldBy len Opened = Unit
 
-abbrev FoundIn : ℕ → way.Answer → Type 0
-FoundIn len (Found o l) = o < len
-FoundIn len (NotFound l) = Unit
-FoundIn len Invalid = Unit
+abbrev FoundIn : ℕ → Option Found → Type 0
+FoundIn len (Some f) = Inside len f.offset
+FoundIn len None = Unit
 
 found_in : (nodes room node len : ℕ) → FoundIn room (answer_of nodes room node len)
 unfolding answer_of
@@ -61,7 +57,7 @@ found_in nodes room node len = pick (leb node nodes) (ltb node (nodes + 16)) (lt
   where
     pick :
         (a b c : Bool) → ltb (offset_of nodes node) room ≡ c
-        → FoundIn room (cond a (NotFound len) (cond b Invalid (cond c (Found (offset_of nodes node) len) Invalid)))
+        → FoundIn room (cond a (Some (found None len)) (cond b None (cond c (Some (found (Some (offset_of nodes node)) len)) None)))
     pick true b c e = tt
     pick false true c e = tt
     pick false false true e = ltb-true _ _ e
@@ -75,22 +71,25 @@ module _ (d : List ℕ) (h : Handle) (o : Options) (width : ℕ) (p : Place) whe
   either true t u f g = f
   either false t u f g = g
 
-  unless : (e : Emptiness) (x : ℕ) → x < length d → T (unless_empty e (network_of h width p (offset.At x)))
-  unless Empty x l = tt
-  unless Holds x l = l
-  unless Malformed x l = tt
+  unless : (e : Result Bool Refusal) (x : ℕ) → x < length d → T (unless_empty e (network_of h width p (Some x)))
+  unless (Ok true) x l = tt
+  unless (Ok false) x l = l
+  unless (Err r) x l = tt
 
-  ending : (a : way.Answer) → FoundIn (length d) a → T (end_of d h o width p a)
-  ending (Found x len) l = either o.skipempty _ _ (unless (empty_at d x) x l) l
-  ending (NotFound len) l = either o.dataless (Out (outcome.Given (network_of h width p offset.None))) Passed tt tt
-  ending Invalid l = tt
+  ending_at : (a : Option ℕ) → Inside (length d) a → T (end_at d h o width p a)
+  ending_at (Some x) l = either o.skipempty _ _ (unless (empty_at d x) x l) l
+  ending_at None l = either o.dataless (Out (outcome.Given (network_of h width p None))) Passed tt tt
+
+  ending : (a : Option Found) → FoundIn (length d) a → T (end_of d h o width p a)
+  ending (Some f) l = ending_at f.offset l
+  ending None l = tt
 
   told_turn : T (turn_of d h o width p)
   unfolding turn_of
   told_turn =
       either (is_skipped h o width p) _ _ tt
       (either (ltb p.value h.nodes) _ _
-      (either (ltb p.len width) Opened (Out (outcome.Failed refusal.too_deep)) tt tt)
+      (either (ltb p.len width) Opened (Out (outcome.Failed refusal.TooDeep)) tt tt)
       (ending (answer_of h.nodes (length d) p.value p.len) (found_in h.nodes (length d) p.value p.len)))
 
 module _ (s : List ℕ) (h : Handle) where
@@ -113,7 +112,7 @@ module _ (s : List ℕ) (h : Handle) where
   unfolding next_of
   told_next w b = pick (fits_of h (length s))
     where
-      pick : (f : Bool) → Told len (cond f (goes s h b 0 w) (called (outcome.Refused refusal.handle) 0 w)).answer
+      pick : (f : Bool) → Told len (cond f (goes s h b 0 w) (called (outcome.Refused refusal.Handle) 0 w)).answer
       pick true = told_goes b 0 w
       pick false = tt
 
@@ -121,11 +120,11 @@ module _ (s : List ℕ) (h : Handle) where
   unfolding Below
   below_reply (outcome.Given n) t i b = below_offset n.offset i
     where
-      below_offset : (o : Offset) → Inside len o → Below len (on_reply (On o) t).offsets
-      below_offset (offset.At x) j = (j, b)
-      below_offset offset.None j = b
-  below_reply (outcome.Failed number) t i b = tt
-  below_reply (outcome.Refused number) t i b = tt
+      below_offset : (o : Option ℕ) → Inside len o → Below len (on_reply (On o) t).offsets
+      below_offset (Some x) j = (j, b)
+      below_offset None j = b
+  below_reply (outcome.Failed r) t i b = tt
+  below_reply (outcome.Refused r) t i b = tt
   below_reply outcome.Paused t i b = tt
   below_reply outcome.End t i b = tt
 
@@ -141,7 +140,7 @@ module _ (s : List ℕ) (h : Handle) where
   tour_below budget = toured_below (3 * h.nodes) budget _
 
 -- the scratch with a network's offset first
-pub marked_offset : (ws : List ℕ) (o : Offset) (t : Tour) → marked t (record_each ws (offsets_of o)) ≡ marked (on_reply (On o) t) ws
+pub marked_offset : (ws : List ℕ) (o : Option ℕ) (t : Tour) → marked t (record_each ws (offsets_of o)) ≡ marked (on_reply (On o) t) ws
 unfolding record_each
-marked_offset ws (offset.At x) t = refl
-marked_offset ws offset.None t = refl
+marked_offset ws (Some x) t = refl
+marked_offset ws None t = refl

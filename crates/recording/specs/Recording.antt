@@ -1,11 +1,10 @@
 -- The tree walk of verification: all networks of the image in order, those without data included, aliases skipped.
-use Rattle.std.specs.Prelude.{ℕ, zero, suc, ◌+◌, ◌-◌, ◌*◌, ◌/◌, ◌<◌, true, false, cond, List, [], ◌∷◌, ◌++◌, get_or, eqb}
-use Rattle.refusal.specs.Refusals as refusal
+use Rattle.std.specs.Prelude.{ℕ, zero, suc, ◌+◌, ◌-◌, ◌*◌, ◌/◌, ◌<◌, true, false, cond, List, [], ◌∷◌, ◌++◌, Option, Some, None, Result, Ok, Err, get_or, eqb}
+use Rattle.refusal.specs.declared.Refusal.{Refusal}
+use Rattle.refusal.specs.declared.Refusal.TheVariants as refusal
 use Rattle.handle.specs.declared.Handle.{Handle}
 use Rattle.marks.specs.Marks.{record_each}
 use Rattle.place.specs.declared.Options.{Options}
-use Rattle.place.specs.declared.Offset.{Offset}
-use Rattle.place.specs.declared.Offset.TheVariants as offset
 use Rattle.place.specs.declared.Outcome.{Outcome}
 use Rattle.place.specs.declared.Outcome.TheVariants as outcome
 use Rattle.walk.specs.declared.Range.{Range}
@@ -14,8 +13,10 @@ use Rattle.walk.specs.declared.Walk.{Walk}
 use Rattle.walk.specs.Starts.{begin_of}
 use Rattle.walk.specs.Calls.{next_of}
 use Rattle.walk.specs.Rows.{no_data}
-use Rattle.recording.specs.declared.Recorded.{Recorded}
-use Rattle.recording.specs.declared.Recorded.TheVariants.{All, Refused}
+
+-- how a walk ended: behind its last network, or by a refusal
+abbrev pub Recorded : Type 0
+Recorded = Result (Unit {0}) Refusal
 
 -- every address of the image's own width
 abbrev pub whole_range : Handle → Range
@@ -25,18 +26,18 @@ whole_range h = cond (eqb h.version 4) (Ipv4 0 0) (Ipv6 (record { high = 0; low 
 abbrev pub options : Options
 options = record { aliased = false; dataless = true; skipempty = false }
 
-abbrev pub offsets_of : Offset → List ℕ
-offsets_of (offset.At o) = o ∷ []
-offsets_of offset.None = []
+abbrev pub offsets_of : Option ℕ → List ℕ
+offsets_of (Some o) = o ∷ []
+offsets_of None = []
 
 -- so many words have room for an offset's state
-abbrev pub Roomy : ℕ → Offset → Type 0
-Roomy n (offset.At o) = o / 64 * 2 + 1 < n
-Roomy n offset.None = Unit
+abbrev pub Roomy : ℕ → Option ℕ → Type 0
+Roomy n (Some o) = o / 64 * 2 + 1 < n
+Roomy n None = Unit
 
 -- the offset in a row's last word
-abbrev pub offset_in : ℕ → Offset
-offset_in word = cond (eqb word no_data) offset.None (offset.At word)
+abbrev pub offset_in : ℕ → Option ℕ
+offset_in word = cond (eqb word no_data) None (Some word)
 
 -- the offsets of n rows, from a row on
 unfoldable pub offsets_from : List ℕ → ℕ → ℕ → List ℕ
@@ -45,16 +46,16 @@ offsets_from rows row (suc n) = offsets_of (offset_in (get_or rows (row * 5 + 4)
 
 -- a network, with its data's offset, or the walk's end
 pub data Reply : Type 0 where
-  On : Offset → Reply
+  On : Option ℕ → Reply
   Ended : Recorded → Reply
 
 -- what a call's answer says: 11 and 12 end the walk, and 21 where the budget is spent with places still waiting
 abbrev pub reply_of : Outcome → Reply
 reply_of (outcome.Given n) = On n.offset
-reply_of (outcome.Failed number) = Ended (Refused number)
-reply_of (outcome.Refused number) = Ended (Refused number)
-reply_of outcome.Paused = Ended (Refused refusal.budget)
-reply_of outcome.End = Ended All
+reply_of (outcome.Failed r) = Ended (Err r)
+reply_of (outcome.Refused r) = Ended (Err r)
+reply_of outcome.Paused = Ended (Err refusal.Budget)
+reply_of outcome.End = Ended (Ok tt)
 
 -- the offsets of the networks that the walk met, in order, and how it ended
 pub record Tour : Type 0 where
@@ -66,7 +67,7 @@ on_reply (On o) rest = record { offsets = offsets_of o ++ rest.offsets; ended = 
 on_reply (Ended r) rest = record { offsets = []; ended = r }
 
 abbrev pub too_many_tour : Tour
-too_many_tour = record { offsets = []; ended = Refused refusal.too_many_networks }
+too_many_tour = record { offsets = []; ended = Err refusal.TooManyNetworks }
 
 -- a walk carried on call by call, with so many more networks allowed and so much of the budget left
 unfoldable pub toured : List ℕ → Handle → ℕ → ℕ → Walk → Tour

@@ -1,5 +1,5 @@
 use Prim.Native.Nat.{◌*◌, ◌/◌, ◌≤◌}
-use mathlib.Core.Path.{◌≡◌, refl, sym, ap, ◌∙◌}
+use mathlib.Core.Path.{◌≡◌, refl, ap, ◌∙◌}
 use native.Mathlib.Omega.{arith}
 use lib.ListN.{length}
 use Rattle.handle.proofs.HandleLaws.{fit}
@@ -8,7 +8,7 @@ use Rattle.marks.proofs.MarkLaws.{length_each}
 use Rattle.walk.specs.Calls.{data_section}
 use Rattle.walk.specs.Rows.{Poured, poured}
 use Rattle.recording.specs.Recording.{tour_of}
-use Rattle.recording.proofs.RunLaws.{Swept, halted, swept}
+use Rattle.recording.proofs.RunLaws.{Swept, halted, halted_by, swept}
 use Rattle.recording.proofs.record_networks.Goals as goal
 use Rattle.recording.proofs.record_networks.Goals.{After-next_rows-filled}
 
@@ -39,16 +39,7 @@ overflow_mul-more c = let f = fit _ _ c.requires.image_value in omega (arith, f.
 
 pub loop-more-init : goal.loop-more-init
 unfolding tour_of
-loop-more-init c = (refl, sym c.rows_room-rows.ensures, rw (c.begin-started.ensures, c.whole_range.ensures) refl)
-
-pub slice_bounds-next_rows-end : goal.slice_bounds-next_rows-end
-slice_bounds-next_rows-end c = sym c.loop-more.invariant.1
-
-pub slice_bounds-mark_rows-end : goal.slice_bounds-mark_rows-end
-slice_bounds-mark_rows-end c = sym (lasts (goal.at.slice_bounds-mark_rows-end c).After-next_rows-filled)
-
-pub overflow_add-more : goal.overflow_add-more
-overflow_add-more c = let l : c.next_rows-filled.result.rows ≤ 256 = few (goal.at.overflow_add-more c).After-next_rows-filled in omega (arith, c.if-more-n.true, l)
+loop-more-init c = (refl, refl, rw (c.begin-started.ensures, c.whole_range.ensures) refl)
 
 pub mark_rows-requires : goal.mark_rows-requires
 mark_rows-requires c =
@@ -61,9 +52,6 @@ mark_rows-requires c =
 
 pub returns-then-more-n : goal.returns-then-more-n
 returns-then-more-n c = rw c.mark_rows.ensures ((sweeps (goal.at.returns-then-more-n c).After-next_rows-filled).over _ _ c.if-more-n.true ∙ c.loop-more.invariant.2)
-
-pub slice_bounds-mark_rows-end-in-loop-more : goal.slice_bounds-mark_rows-end-in-loop-more
-slice_bounds-mark_rows-end-in-loop-more c = sym (lasts (goal.at.slice_bounds-mark_rows-end-in-loop-more c).After-next_rows-filled)
 
 pub mark_rows-requires-in-loop-more : goal.mark_rows-requires-in-loop-more
 mark_rows-requires-in-loop-more c =
@@ -88,11 +76,15 @@ loop-more-preserved c =
 
 pub returns-in-Failed : goal.returns-in-Failed
 unfolding record_each
-returns-in-Failed c = rw c.mark_rows-in-loop-more.ensures (halted _ _ _ _ _ (call (goal.at.returns-in-Failed c).After-next_rows-filled) (sweeps (goal.at.returns-in-Failed c).After-next_rows-filled) _ c.in-Failed.is _ _ (omega (arith, c.if-more-n.false)) ∙ c.loop-more.invariant.2)
+returns-in-Failed c =
+    let at_rows = (goal.at.returns-in-Failed c).After-next_rows-filled in
+    rw c.mark_rows-in-loop-more.ensures (halted_by _ _ _ _ _ (call at_rows) (sweeps at_rows) _ c.in-Failed.is _ _ (omega (arith, c.if-more-n.false)) ∙ c.loop-more.invariant.2)
 
-pub returns-in-Refused : goal.returns-in-Refused
+pub returns-in-Failed-2 : goal.returns-in-Failed-2
 unfolding record_each
-returns-in-Refused c = rw c.mark_rows-in-loop-more.ensures (halted _ _ _ _ _ (call (goal.at.returns-in-Refused c).After-next_rows-filled) (sweeps (goal.at.returns-in-Refused c).After-next_rows-filled) _ c.in-Refused.is _ _ (omega (arith, c.if-more-n.false)) ∙ c.loop-more.invariant.2)
+returns-in-Failed-2 c =
+    let at_rows = (goal.at.returns-in-Failed-2 c).After-next_rows-filled in
+    rw c.mark_rows-in-loop-more.ensures (halted_by _ _ _ _ _ (call at_rows) (sweeps at_rows) _ c.in-Failed.is _ _ (omega (arith, c.if-more-n.false)) ∙ c.loop-more.invariant.2)
 
 pub returns-in-Paused : goal.returns-in-Paused
 unfolding record_each
