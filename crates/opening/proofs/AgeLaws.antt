@@ -1,13 +1,13 @@
 -- Laws of the difference of two times.
 use Prim.Native.Nat.{ℕ, zero, suc, ◌-◌, ◌≤◌, ◌<◌}
-use mathlib.Core.Path.{◌≡◌, refl, ◌∙◌}
+use mathlib.Core.Path.{◌≡◌, refl}
 use mathlib.Core.Bool.{Bool, true, false, cond}
 use native.Mathlib.Omega.{arith}
 use lib.Dec.{ltb}
 use lib.IntN.{pos, negsuc, ◌-ℤ◌}
 use mir.Syntax.{w64}
-use mir.Val.{to_z, of_z, SFits}
-use mir.ValLaws.{to_z_pos, to_z-of_z}
+use mir.Val.{to_z, SFits}
+use mir.ValLaws.{to_z_pos}
 use Rattle.opening.specs.Opening.{last_time}
 
 module _ (a b : ℕ) (ha : a ≤ last_time) (hb : b ≤ last_time) where
@@ -25,6 +25,3 @@ difference_fits a (suc n) ha hb = below a n (ltb a (suc n)) refl ha (omega arith
 -- the difference of two times is a signed number of 64 bits
 pub signed_fits : (a b : ℕ) → a ≤ last_time → b ≤ last_time → SFits w64 (to_z w64 a -ℤ to_z w64 b)
 signed_fits a b ha hb = rw (as_signed a b ha hb) (difference_fits a b ha hb)
-
-pub signed_is : (a b : ℕ) → a ≤ last_time → b ≤ last_time → to_z w64 (of_z w64 (to_z w64 a -ℤ to_z w64 b)) ≡ pos a -ℤ pos b
-signed_is a b ha hb = to_z-of_z w64 (to_z w64 a -ℤ to_z w64 b) (signed_fits a b ha hb) ∙ as_signed a b ha hb

@@ -1,7 +1,7 @@
 -- When an image opens and when it is refused, as properties of the image; and that the handle of an opened image fits it.
 use Prim.Native.Nat.{ℕ, ◌+◌, ◌-◌, ◌^◌, ◌≤◌, ◌<◌}
 use mathlib.Core.Path.{◌≡◌, refl, sym, ap, subst, ◌∙◌}
-use mathlib.Core.Bool.{Bool, true, false, cond, ◌||◌, false≢true}
+use mathlib.Core.Bool.{Bool, true, false, cond, false≢true}
 use mathlib.Core.Logic.{◌⊎◌, inl, inr, ⊎_elim}
 use mathlib.Core.List.{List}
 use native.Mathlib.Omega.{arith}
@@ -10,23 +10,22 @@ use lib.Seq.{get_or-drop}
 use lib.Dec.{leb, eqb}
 use lib.IntN.{pos, ◌-ℤ◌}
 use borrow.Author.Tests.{le-leb, lt-leb, leb-true, leb-false, eqb-true, eqb-false}
-use Rattle.refusal.specs.Refusals as refusal
+use Rattle.std.proofs.lemmas.Bool.{or_cases}
+use Rattle.std.specs.Prelude.{Option, Some, None, Ok, Err}
+use Rattle.refusal.specs.declared.Refusal.{Refusal}
+use Rattle.refusal.specs.declared.Refusal.TheVariants as refusal
 use Rattle.handle.specs.Handle.{image_bound, version_known, size_known, data_start, fits_of}
 use Rattle.handle.proofs.HandleLaws.{Sized, sized, size_known_lem, size_le, Fit, fits_of_lem}
 use Rattle.tree.specs.Marker.{marker_of}
 use Rattle.tree.specs.Lookup.{ipv4_start_of}
-use Rattle.tree.specs.declared.Marked as marked
 use Rattle.tree.specs.declared.Place.{Place}
 use Rattle.tree.proofs.MarkerLaws.{Stands, marker_at, marker_nowhere, marker_found, marker_missing}
 use Rattle.tree.proofs.LookupLaws.{ipv4_start_fits}
 use Rattle.metadata.specs.Metadata.{metadata_of}
 use Rattle.metadata.specs.declared.Metadata.{Metadata}
-use Rattle.metadata.specs.declared.Read as read
 use Rattle.metadata.proofs.DecodedLaws.{numbers_small}
 use Rattle.opening.specs.Opening.{last_time, metadata_section, ipv4_of, handle_of, reader_of, checked, on_read, on_marker, open_of, age_of}
 use Rattle.opening.specs.declared.Reader.{Reader}
-use Rattle.opening.specs.declared.Aged as aged
-use Rattle.opening.specs.declared.Opened.TheVariants.{Is, Refused}
 use Rattle.opening.proofs.TreeLaws.{marker_inside}
 use Rattle.opening.proofs.CheckLaws as check
 
@@ -45,7 +44,7 @@ Versioned version = (version ≡ 4) ⊎ (version ≡ 6)
 pub record Decoded (s : List ℕ) (marker : ℕ) (m : Metadata) : Type 0 where
   pub short : Short s
   pub last : LastMarker s marker
-  pub fields : metadata_of (metadata_section s marker) ≡ read.TheVariants.Is m
+  pub fields : metadata_of (metadata_section s marker) ≡ Some m
 
 -- none of the refusals holds
 pub record Opens (s : List ℕ) (marker : ℕ) (m : Metadata) : Type 0 where
@@ -58,16 +57,16 @@ pub record Opens (s : List ℕ) (marker : ℕ) (m : Metadata) : Type 0 where
   pub tree : data_start m.nodes m.size ≤ marker
 
 -- a refusal holds, and none before it in the order of opening
-pub data Refuses (s : List ℕ) : ℕ → Type 0 where
-  too_long : image_bound < length s → Refuses s refusal.image_too_long
-  no_marker_lem : Short s → ((i : ℕ) → Stands s i → ⊥) → Refuses s refusal.no_marker
-  no_metadata : (marker : ℕ) → Short s → LastMarker s marker → metadata_of (metadata_section s marker) ≡ read.TheVariants.Wrong → Refuses s refusal.metadata
-  format_version_lem : (marker : ℕ) (m : Metadata) → Decoded s marker m → (m.major ≡ 2 → ⊥) → Refuses s refusal.format_version
-  ip_version_lem : (marker : ℕ) (m : Metadata) → Decoded s marker m → m.major ≡ 2 → (Versioned m.version → ⊥) → Refuses s refusal.ip_version
-  no_nodes_lem : (marker : ℕ) (m : Metadata) → Decoded s marker m → m.major ≡ 2 → Versioned m.version → m.nodes ≡ 0 → Refuses s refusal.no_nodes
-  build_time_lem : (marker : ℕ) (m : Metadata) → Decoded s marker m → m.major ≡ 2 → Versioned m.version → 1 ≤ m.nodes → last_time < m.build → Refuses s refusal.build_time
-  record_size_lem : (marker : ℕ) (m : Metadata) → Decoded s marker m → m.major ≡ 2 → Versioned m.version → 1 ≤ m.nodes → m.build ≤ last_time → (Sized m.size → ⊥) → Refuses s refusal.record_size
-  tree_too_long_lem : (marker : ℕ) (m : Metadata) → Decoded s marker m → m.major ≡ 2 → Versioned m.version → 1 ≤ m.nodes → m.build ≤ last_time → Sized m.size → marker < data_start m.nodes m.size → Refuses s refusal.tree_too_long
+pub data Refuses (s : List ℕ) : Refusal → Type 0 where
+  too_long : image_bound < length s → Refuses s refusal.ImageTooLong
+  no_marker_lem : Short s → ((i : ℕ) → Stands s i → ⊥) → Refuses s refusal.NoMarker
+  no_metadata : (marker : ℕ) → Short s → LastMarker s marker → metadata_of (metadata_section s marker) ≡ None → Refuses s refusal.Metadata
+  format_version_lem : (marker : ℕ) (m : Metadata) → Decoded s marker m → (m.major ≡ 2 → ⊥) → Refuses s refusal.FormatVersion
+  ip_version_lem : (marker : ℕ) (m : Metadata) → Decoded s marker m → m.major ≡ 2 → (Versioned m.version → ⊥) → Refuses s refusal.IpVersion
+  no_nodes_lem : (marker : ℕ) (m : Metadata) → Decoded s marker m → m.major ≡ 2 → Versioned m.version → m.nodes ≡ 0 → Refuses s refusal.NoNodes
+  build_time_lem : (marker : ℕ) (m : Metadata) → Decoded s marker m → m.major ≡ 2 → Versioned m.version → 1 ≤ m.nodes → last_time < m.build → Refuses s refusal.BuildTime
+  record_size_lem : (marker : ℕ) (m : Metadata) → Decoded s marker m → m.major ≡ 2 → Versioned m.version → 1 ≤ m.nodes → m.build ≤ last_time → (Sized m.size → ⊥) → Refuses s refusal.RecordSize
+  tree_too_long_lem : (marker : ℕ) (m : Metadata) → Decoded s marker m → m.major ≡ 2 → Versioned m.version → 1 ≤ m.nodes → m.build ≤ last_time → Sized m.size → marker < data_start m.nodes m.size → Refuses s refusal.TreeTooLong
 
 decide : (t : Bool) → (t ≡ true) ⊎ (t ≡ false)
 decide true = inl refl
@@ -78,12 +77,8 @@ false_where : (t : Bool) {P : Type 0} → (t ≡ true → P) → (P → ⊥) →
 false_where true f n = absurd (n (f refl))
 false_where false f n = refl
 
-either : (a b : Bool) → (a || b) ≡ true → (a ≡ true) ⊎ (b ≡ true)
-either true b e = inl refl
-either false b e = inr e
-
 versioned : (v : ℕ) → version_known v ≡ true → Versioned v
-versioned v e = ⊎_elim (λ p. inl (eqb-true v 4 p)) (λ p. inr (eqb-true v 6 p)) (either (eqb v 4) (eqb v 6) e)
+versioned v e = ⊎_elim (λ p. inl (eqb-true v 4 p)) (λ p. inr (eqb-true v 6 p)) (or_cases (eqb v 4) (eqb v 6) e)
 
 known : {v : ℕ} → Versioned v → version_known v ≡ true
 known (inl e) = rw e
@@ -97,27 +92,27 @@ unsized {n} f = false_where (size_known n) (sized n) f
 
 module _ (s : List ℕ) where
   -- an image longer than the bound, whatever it holds
-  pub open_long : image_bound < length s → open_of s ≡ Refused refusal.image_too_long
+  pub open_long : image_bound < length s → open_of s ≡ Err refusal.ImageTooLong
   unfolding open_of
   open_long h = simp (lt-leb (length s) image_bound h)
 
-  open_short : {x : marked.Marked} → Short s → marker_of s ≡ x → open_of s ≡ on_marker s x
+  open_short : {x : Option ℕ} → Short s → marker_of s ≡ x → open_of s ≡ on_marker s x
   unfolding open_of
   open_short h e = simp (le-leb (length s) image_bound h, e)
 
-  open_marked : {marker : ℕ} {x : read.Read} → Short s → LastMarker s marker → metadata_of (metadata_section s marker) ≡ x → open_of s ≡ on_read s marker x
+  open_marked : {marker : ℕ} {x : Option Metadata} → Short s → LastMarker s marker → metadata_of (metadata_section s marker) ≡ x → open_of s ≡ on_read s marker x
   open_marked {marker} h l e = open_short h (marker_found s marker l.0 l.1) ∙ ap (on_read s marker) e
 
   open_decoded : {marker : ℕ} {m : Metadata} → Decoded s marker m → open_of s ≡ checked s marker m
   open_decoded d = open_marked d.short d.last d.fields
 
   -- an image opens where no refusal holds
-  pub opens : {marker : ℕ} {m : Metadata} → Opens s marker m → open_of s ≡ Is (reader_of s marker m)
+  pub opens : {marker : ℕ} {m : Metadata} → Opens s marker m → open_of s ≡ Ok (reader_of s marker m)
   opens {marker} {m} o =
       open_decoded o.decoded ∙ check.all_passed s marker m o.major (known o.version) o.nodes o.build (size_known_lem o.size) o.tree
 
   -- and is refused with the first that holds
-  pub refuses : {n : ℕ} → Refuses s n → open_of s ≡ Refused n
+  pub refuses : {n : Refusal} → Refuses s n → open_of s ≡ Err n
   refuses (too_long h) = open_long h
   refuses (no_marker_lem h f) = open_short h (marker_missing s f)
   refuses (no_metadata marker h l e) = open_marked h l e
@@ -130,7 +125,7 @@ module _ (s : List ℕ) where
 
   data Verdict : Type 0 where
     opened : (marker : ℕ) (m : Metadata) → Opens s marker m → Verdict
-    refused : (n : ℕ) → Refuses s n → Verdict
+    refused : (n : Refusal) → Refuses s n → Verdict
 
   module _ (marker : ℕ) (m : Metadata) (d : Decoded s marker m) where
     by_tree : m.major ≡ 2 → Versioned m.version → 1 ≤ m.nodes → m.build ≤ last_time → Sized m.size → Verdict
@@ -175,13 +170,13 @@ module _ (s : List ℕ) where
         (λ t. refused _ (format_version_lem marker m d (eqb-false m.major 2 t)))
         (decide (eqb m.major 2))
 
-  by_metadata : (marker : ℕ) (x : read.Read) → Short s → LastMarker s marker → metadata_of (metadata_section s marker) ≡ x → Verdict
-  by_metadata marker (read.TheVariants.Is m) h l e = by_major marker m (record { short = h; last = l; fields = e })
-  by_metadata marker read.TheVariants.Wrong h l e = refused _ (no_metadata marker h l e)
+  by_metadata : (marker : ℕ) (x : Option Metadata) → Short s → LastMarker s marker → metadata_of (metadata_section s marker) ≡ x → Verdict
+  by_metadata marker (Some m) h l e = by_major marker m (record { short = h; last = l; fields = e })
+  by_metadata marker None h l e = refused _ (no_metadata marker h l e)
 
-  by_marker : (x : marked.Marked) → Short s → marker_of s ≡ x → Verdict
-  by_marker (marked.TheVariants.At marker) h e = by_metadata marker (metadata_of (metadata_section s marker)) h (marker_at s marker e) refl
-  by_marker marked.TheVariants.Nowhere h e = refused _ (no_marker_lem h (marker_nowhere s e))
+  by_marker : (x : Option ℕ) → Short s → marker_of s ≡ x → Verdict
+  by_marker (Some marker) h e = by_metadata marker (metadata_of (metadata_section s marker)) h (marker_at s marker e) refl
+  by_marker None h e = refused _ (no_marker_lem h (marker_nowhere s e))
 
   verdict : Verdict
   verdict =
@@ -190,7 +185,7 @@ module _ (s : List ℕ) where
       (λ t. refused _ (too_long (leb-false _ _ t)))
       (decide (leb (length s) image_bound))
 
-  never : {o : Reader} {n : ℕ} → Is o ≡ Refused n → ⊥
+  never : {o : Reader} {n : Refusal} → Ok o ≡ Err n → ⊥
   never e = let z : ◌≡◌ {A = ℕ} 0 1 = cc in omega arith
 
   -- what opened says: no refusal holds, and the reader is made of the image's own numbers
@@ -200,7 +195,7 @@ module _ (s : List ℕ) where
     pub passes : Opens s marker metadata
     pub reader : o ≡ reader_of s marker metadata
 
-  pub is_open : {o : Reader} → open_of s ≡ Is o → Open o
+  pub is_open : {o : Reader} → open_of s ≡ Ok o → Open o
   is_open {o} e = by verdict
     where
       by : Verdict → Open o
@@ -209,7 +204,7 @@ module _ (s : List ℕ) where
           record { marker = marker; metadata = m; passes = p; reader = cc }
       by (refused n r) = absurd (never (sym e ∙ refuses r))
 
-  pub is_refused : {n : ℕ} → open_of s ≡ Refused n → Refuses s n
+  pub is_refused : {n : Refusal} → open_of s ≡ Err n → Refuses s n
   is_refused {n} e = by verdict
     where
       by : Verdict → Refuses s n
@@ -220,20 +215,20 @@ module _ (s : List ℕ) where
           subst (Refuses s) g r
 
 -- the build time of an opened image
-pub open_build : (s : List ℕ) {o : Reader} → open_of s ≡ Is o → o.metadata.build ≤ last_time
+pub open_build : (s : List ℕ) {o : Reader} → open_of s ≡ Ok o → o.metadata.build ≤ last_time
 open_build s e = let p = is_open s e in rw p.reader p.passes.build
 
 -- the age of an image that opens, and of one that does not
 module _ (s : List ℕ) (time : ℕ) where
-  pub age_is : {o : Reader} → open_of s ≡ Is o → time ≤ last_time → age_of s time ≡ aged.TheVariants.Is (pos time -ℤ pos o.metadata.build)
+  pub age_is : {o : Reader} → open_of s ≡ Ok o → time ≤ last_time → age_of s time ≡ Ok (pos time -ℤ pos o.metadata.build)
   unfolding age_of
   age_is e h = simp (e, le-leb time last_time h)
 
-  pub age_late : {o : Reader} → open_of s ≡ Is o → last_time < time → age_of s time ≡ aged.TheVariants.Refused refusal.time
+  pub age_late : {o : Reader} → open_of s ≡ Ok o → last_time < time → age_of s time ≡ Err refusal.Time
   unfolding age_of
   age_late e h = simp (e, lt-leb time last_time h)
 
-  pub age_refused : {n : ℕ} → open_of s ≡ Refused n → age_of s time ≡ aged.TheVariants.Refused n
+  pub age_refused : {n : Refusal} → open_of s ≡ Err n → age_of s time ≡ Err n
   unfolding age_of
   age_refused e = simp e
 
@@ -272,7 +267,7 @@ module _ (s : List ℕ) (bytes : (i : ℕ) → get_or s i 0 < 256) where
         only4 = λ e. rw e (refl, refl);
       }
 
-  pub open_fits : {o : Reader} → open_of s ≡ Is o → fits_of o.handle (length s) ≡ true
+  pub open_fits : {o : Reader} → open_of s ≡ Ok o → fits_of o.handle (length s) ≡ true
   open_fits e =
       let p = is_open s e in
       rw p.reader (fits_of_lem (handle_of s p.marker p.metadata) (length s) (reader_fits p.marker p.metadata p.passes))

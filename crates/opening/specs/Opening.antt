@@ -1,19 +1,15 @@
 -- Opening an image s, and its age: docs/SCOPE.md, "The refusal numbers".
-use Rattle.std.specs.Prelude.{ℕ, ◌+◌, ◌-◌, ◌^◌, Bool, cond, List, length, drop, leb, eqb, pos, ◌-ℤ◌}
-use Rattle.refusal.specs.Refusals as refusal
+use Rattle.std.specs.Prelude.{ℕ, ◌+◌, ◌-◌, ◌^◌, Bool, cond, List, length, drop, leb, eqb, Option, Some, None, Result, Ok, Err, ℤ, pos, ◌-ℤ◌}
+use Rattle.refusal.specs.declared.Refusal.{Refusal}
+use Rattle.refusal.specs.declared.Refusal.TheVariants as refusal
 use Rattle.handle.specs.Handle.{image_bound, version_known, size_known, data_start}
 use Rattle.handle.specs.declared.Handle.{Handle}
 use Rattle.tree.specs.Marker.{marker_of}
 use Rattle.tree.specs.Lookup.{ipv4_start_of}
-use Rattle.tree.specs.declared.Marked as marked
 use Rattle.tree.specs.declared.Place.{Place}
 use Rattle.metadata.specs.Metadata.{metadata_of}
 use Rattle.metadata.specs.declared.Metadata.{Metadata}
-use Rattle.metadata.specs.declared.Read as read
 use Rattle.opening.specs.declared.Reader.{Reader}
-use Rattle.opening.specs.declared.Opened.{Opened}
-use Rattle.opening.specs.declared.Opened.TheVariants.{Is, Refused}
-use Rattle.opening.specs.declared.Aged as aged
 
 -- the last second of a build time, and of a time given
 abbrev pub last_time : ℕ
@@ -46,37 +42,36 @@ abbrev pub reader_of : List ℕ → ℕ → Metadata → Reader
 reader_of s marker m = record { handle = handle_of s marker m; metadata = m }
 
 -- what is asked next, or a refusal
-abbrev pub gate : Bool → ℕ → Opened → Opened
-gate passes number next = cond passes next (Refused number)
+abbrev pub gate : Bool → Refusal → Result Reader Refusal → Result Reader Refusal
+gate passes refusal next = cond passes next (Err refusal)
 
 -- the refusals from 3 to 8
-abbrev pub checked : List ℕ → ℕ → Metadata → Opened
+abbrev pub checked : List ℕ → ℕ → Metadata → Result Reader Refusal
 checked s marker m =
-    gate (eqb m.major 2) refusal.format_version
-    (gate (version_known m.version) refusal.ip_version
-    (gate (leb 1 m.nodes) refusal.no_nodes
-    (gate (leb m.build last_time) refusal.build_time
-    (gate (size_known m.size) refusal.record_size
-    (gate (leb (data_start m.nodes m.size) marker) refusal.tree_too_long
-    (Is (reader_of s marker m)))))))
+    gate (eqb m.major 2) refusal.FormatVersion
+    (gate (version_known m.version) refusal.IpVersion
+    (gate (leb 1 m.nodes) refusal.NoNodes
+    (gate (leb m.build last_time) refusal.BuildTime
+    (gate (size_known m.size) refusal.RecordSize
+    (gate (leb (data_start m.nodes m.size) marker) refusal.TreeTooLong
+    (Ok (reader_of s marker m)))))))
 
-abbrev pub on_read : List ℕ → ℕ → read.Read → Opened
-on_read s marker (read.TheVariants.Is m) = checked s marker m
-on_read s marker read.TheVariants.Wrong = Refused refusal.metadata
+abbrev pub on_read : List ℕ → ℕ → Option Metadata → Result Reader Refusal
+on_read s marker (Some m) = checked s marker m
+on_read s marker None = Err refusal.Metadata
 
-abbrev pub on_marker : List ℕ → marked.Marked → Opened
-on_marker s (marked.TheVariants.At marker) = on_read s marker (metadata_of (metadata_section s marker))
-on_marker s marked.TheVariants.Nowhere = Refused refusal.no_marker
+abbrev pub on_marker : List ℕ → Option ℕ → Result Reader Refusal
+on_marker s (Some marker) = on_read s marker (metadata_of (metadata_section s marker))
+on_marker s None = Err refusal.NoMarker
 
 -- opening an image
-unfoldable pub open_of : List ℕ → Opened
-open_of s = gate (leb (length s) image_bound) refusal.image_too_long (on_marker s (marker_of s))
+unfoldable pub open_of : List ℕ → Result Reader Refusal
+open_of s = gate (leb (length s) image_bound) refusal.ImageTooLong (on_marker s (marker_of s))
 
-abbrev pub age_on : ℕ → Opened → aged.Aged
-age_on time (Is o) =
-    cond (leb time last_time) (aged.TheVariants.Is (pos time -ℤ pos o.metadata.build)) (aged.TheVariants.Refused refusal.time)
-age_on time (Refused number) = aged.TheVariants.Refused number
+abbrev pub age_on : ℕ → Result Reader Refusal → Result ℤ Refusal
+age_on time (Ok o) = cond (leb time last_time) (Ok (pos time -ℤ pos o.metadata.build)) (Err refusal.Time)
+age_on time (Err refusal) = Err refusal
 
 -- the time given minus the build time, in seconds
-unfoldable pub age_of : List ℕ → ℕ → aged.Aged
+unfoldable pub age_of : List ℕ → ℕ → Result ℤ Refusal
 age_of s time = age_on time (open_of s)

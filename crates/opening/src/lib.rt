@@ -7,14 +7,11 @@ ghost use Rattle.tree.specs.Lookup.{Tree};
 ghost use Rattle.opening.specs.Opening.{last_time, ipv4_of, reader_of, checked, open_of, age_of};
 
 use handle::{Handle, IMAGE_BOUND, size_known, version_known};
-use metadata::{Metadata, Read, deserialize};
-use refusal::{
-    BUILD_TIME, FORMAT_VERSION, IMAGE_TOO_LONG, IP_VERSION, METADATA, NO_MARKER, NO_NODES,
-    RECORD_SIZE, TIME, TREE_TOO_LONG,
-};
+use metadata::{Metadata, deserialize};
+use refusal::Refusal;
+use tree::Place;
 use tree::lookup::find_ipv4_start;
 use tree::marker::find_marker;
-use tree::{Marked, Place};
 
 const LAST_TIME: u64 = 9223372036854775807;
 
@@ -25,29 +22,12 @@ pub struct Reader {
     pub metadata: Metadata,
 }
 
-#[derive(Clone, Copy)]
-pub enum Opened {
-    Is(Reader),
-    Refused(u8),
-}
-
-// Seconds since the build, below zero for a time before it.
-#[derive(Clone, Copy)]
-pub enum Aged {
-    Is(i64),
-    Refused(u8),
-}
-
 // Divided and not multiplied, so that no product can overflow.
 fn tree_fits(nodes: u64, bytes: u64, marker: u64) -> bool
     requires { 0 < bytes }
     ensures { result ≡ leb (nodes * bytes + 16) marker }
 {
-    if marker < 16 {
-        false
-    } else {
-        nodes <= (marker - 16) / bytes
-    }
+    16 <= marker && nodes <= (marker - 16) / bytes
 }
 
 fn ipv4_start(image: &[u8], m: Metadata) -> Place
@@ -80,47 +60,41 @@ fn reader_of(image: &[u8], marker: usize, m: Metadata) -> Reader
     }
 }
 
-fn validate(image: &[u8], marker: usize, m: Metadata) -> Opened
+fn validate(image: &[u8], marker: usize, m: Metadata) -> Result<Reader, Refusal>
     requires { marker + 14 ≤ length image.now }
     ensures { result ≡ checked image.now marker m }
 {
     if m.major != 2 {
-        return Opened::Refused(FORMAT_VERSION);
+        return Err(Refusal::FormatVersion);
     }
     if !version_known(m.version) {
-        return Opened::Refused(IP_VERSION);
+        return Err(Refusal::IpVersion);
     }
     if m.nodes == 0 {
-        return Opened::Refused(NO_NODES);
+        return Err(Refusal::NoNodes);
     }
     if m.build > LAST_TIME {
-        return Opened::Refused(BUILD_TIME);
+        return Err(Refusal::BuildTime);
     }
     if !size_known(m.size) {
-        return Opened::Refused(RECORD_SIZE);
+        return Err(Refusal::RecordSize);
     }
     if !tree_fits(m.nodes, m.size / 4, marker as u64) {
-        return Opened::Refused(TREE_TOO_LONG);
+        return Err(Refusal::TreeTooLong);
     }
-    Opened::Is(reader_of(image, marker, m))
+    Ok(reader_of(image, marker, m))
 }
 
-pub fn open(image: &[u8]) -> Opened
+#[tactic(auto, unfolding(crate::specs::Opening::open_of))]
+pub fn open(image: &[u8]) -> Result<Reader, Refusal>
     ensures { result ≡ open_of image.now }
 {
     if (image.len() as u64) > IMAGE_BOUND {
-        return Opened::Refused(IMAGE_TOO_LONG);
+        return Err(Refusal::ImageTooLong);
     }
-    match find_marker(image) {
-        Marked::At(marker) => {
-            let section = marker + 14;
-            match deserialize(&image[section..]) {
-                Read::Is(m) => validate(image, marker, m),
-                Read::Wrong => Opened::Refused(METADATA),
-            }
-        }
-        Marked::Nowhere => Opened::Refused(NO_MARKER),
-    }
+    let marker = find_marker(image).ok_or(Refusal::NoMarker)?;
+    let m = deserialize(&image[marker + 14..]).ok_or(Refusal::Metadata)?;
+    validate(image, marker, m)
 }
 
 fn difference(time: u64, build: u64) -> i64
@@ -130,19 +104,14 @@ fn difference(time: u64, build: u64) -> i64
     (time as i64) - (build as i64)
 }
 
-// How long ago an image was built, at a time in seconds since 1970.
-pub fn age(image: &[u8], time: u64) -> Aged
+// How long ago an image was built, at a time in seconds since 1970: below zero for a time before that.
+#[tactic(auto, unfolding(crate::specs::Opening::age_of))]
+pub fn age(image: &[u8], time: u64) -> Result<i64, Refusal>
     ensures { result ≡ age_of image.now time }
 {
-    match open(image) {
-        Opened::Is(reader) => {
-            if time <= LAST_TIME {
-                let m = reader.metadata;
-                Aged::Is(difference(time, m.build))
-            } else {
-                Aged::Refused(TIME)
-            }
-        }
-        Opened::Refused(number) => Aged::Refused(number),
+    let reader = open(image)?;
+    if time > LAST_TIME {
+        return Err(Refusal::Time);
     }
+    Ok(difference(time, reader.metadata.build))
 }
