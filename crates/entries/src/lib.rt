@@ -2,76 +2,46 @@
 #![tactic(auto)]
 
 ghost use Rattle.std.specs.Prelude.{◌≡◌, ◌+◌, ◌<◌};
-ghost use Rattle.entries.specs.Entries.{span_of, last_of, language_of, description_of};
+ghost use Rattle.entries.specs.Entries.{last_of, language_of, description_of};
 
 use charge::Charge;
-use fields::{Got, texts};
-use metadata::Metadata;
+use fields::texts;
+use metadata::{Metadata, Part};
 
-// Where the bytes of a text lie in the section.
-#[derive(Clone, Copy)]
-pub enum Span {
-    At { from: usize, size: usize },
-    Absent,
-}
-
-// The language of a description, and its text.
+// The language of a description, and its text: where they lie in the section, if they are there.
 #[derive(Clone, Copy)]
 pub struct Described {
-    pub language: Span,
-    pub text: Span,
-}
-
-fn span_of(text: Got) -> Span
-    ensures { result ≡ span_of text }
-{
-    match text {
-        Got::Is {
-            value,
-            place,
-            next: _,
-            charge: _,
-        } => Span::At {
-            from: place,
-            size: value as usize,
-        },
-        Got::Wrong => Span::Absent,
-    }
+    pub language: Option<Part>,
+    pub text: Option<Part>,
 }
 
 // In two runs, because twice an index might not fit a number.
-fn last_text(s: &[u8], from: usize, passed: usize, more: usize) -> Span
+#[tactic(auto, using(crate::proofs::EntryLaws::last_none, crate::proofs::EntryLaws::last_then))]
+fn last_text(s: &[u8], from: usize, passed: usize, more: usize) -> Option<Part>
     requires { 0 < more }
     ensures { result ≡ last_of s.now from (passed + more) }
 {
-    match texts(
-        s,
-        passed,
-        from,
-        Charge {
-            values: 0,
-            payload: 0,
-        },
-    ) {
-        Got::Is {
-            value: _,
-            place: _,
-            next,
-            charge,
-        } => span_of(texts(s, more, next, charge)),
-        Got::Wrong => Span::Absent,
-    }
+    let nothing = Charge {
+        values: 0,
+        payload: 0,
+    };
+    let before = texts(s, passed, from, nothing)?;
+    let last = texts(s, more, before.next, before.charge)?;
+    Some(Part {
+        from: last.place,
+        size: last.value as usize,
+    })
 }
 
 // The language at an index. The metadata may be forged: then it may be absent, or another text.
-pub fn language(s: &[u8], m: Metadata, index: usize) -> Span
+#[tactic(auto, unfolding(crate::specs::Entries::language_of))]
+pub fn language(s: &[u8], m: Metadata, index: usize) -> Option<Part>
     ensures { result ≡ language_of s.now m index }
 {
-    let from = m.languages.from;
     if index < m.languages.size {
-        last_text(s, from, index, 1)
+        last_text(s, m.languages.from, index, 1)
     } else {
-        Span::Absent
+        None
     }
 }
 
@@ -87,8 +57,8 @@ pub fn description(s: &[u8], m: Metadata, index: usize) -> Described
         }
     } else {
         Described {
-            language: Span::Absent,
-            text: Span::Absent,
+            language: None,
+            text: None,
         }
     }
 }
