@@ -2,7 +2,7 @@
 #![tactic(auto)]
 
 ghost use Rattle.std.specs.Prelude.{◌≡◌, true, ◌+◌, ◌*◌, ◌≤◌, ◌<◌, length};
-ghost use Rattle.words.specs.Words.{options_of, bit_of, options_number, holds_walk, place_at, walk_of, put_place, held};
+ghost use Rattle.words.specs.Words.{options_of, options_number, holds_walk, place_at, walk_of, put_place, held};
 
 use number::Key;
 use place::{Options, Place};
@@ -22,29 +22,18 @@ pub fn options_of(n: u64) -> Options
     }
 }
 
-fn bit(b: bool, n: u64) -> u64
-    ensures { (result ≡ bit_of b n) × (result ≤ n) }
-{
-    if b { n } else { 0 }
-}
-
 fn options_number(o: Options) -> u64
     ensures { result ≡ options_number o }
 {
-    let a = bit(o.aliased, 1);
-    let d = bit(o.dataless, 2);
-    let s = bit(o.skipempty, 4);
-    a + d + s
+    u64::from(o.aliased) + 2 * u64::from(o.dataless) + 4 * u64::from(o.skipempty)
 }
 
 // Whether words hold a walk: there are enough, and the options are no more than three.
+#[tactic(auto, unfolding(crate::specs::Words::holds_walk))]
 pub fn holds(words: &[u64]) -> bool
     ensures { result ≡ holds_walk words.now }
 {
-    if words.len() < WALK_WORDS {
-        return false;
-    }
-    words[518] <= 7
+    WALK_WORDS <= words.len() && words[518] <= 7
 }
 
 fn place_at(words: &[u64], i: usize) -> Place
@@ -62,6 +51,7 @@ fn place_at(words: &[u64], i: usize) -> Place
     }
 }
 
+#[tactic(auto, using(crate::proofs::WordLaws::enough))]
 pub fn load(words: &[u64]) -> Walk
     requires { holds_walk words.now ≡ true }
     ensures { result ≡ walk_of words.now }
@@ -83,10 +73,9 @@ fn put_place(words: &mut [u64], i: usize, p: Place)
     ensures { words.new ≡ put_place words.old i p }
 {
     let at = i * 4;
-    let key = p.key;
     words[at] = p.value;
-    words[at + 1] = key.high;
-    words[at + 2] = key.low;
+    words[at + 1] = p.key.high;
+    words[at + 2] = p.key.low;
     words[at + 3] = p.len;
 }
 
