@@ -1,9 +1,8 @@
 -- The tree's own networks.
-use Rattle.std.specs.Prelude.{ℕ, zero, suc, ◌+◌, ◌-◌, ◌^◌, ◌≤◌, ◌<◌, ◌≡◌, cond, ◌⊎◌, List, [], ◌∷◌, ◌++◌, ltb}
+use Rattle.std.specs.Prelude.{ℕ, zero, suc, ◌+◌, ◌-◌, ◌^◌, ◌≤◌, ◌<◌, ◌≡◌, cond, ◌⊎◌, List, [], ◌∷◌, ◌++◌, None, ltb}
 use Rattle.tree.specs.Record.{record_at}
 use Rattle.tree.specs.Lookup.{answer_of, down}
 use Rattle.tree.specs.declared.Place.{Place}
-use Rattle.tree.specs.declared.Answer.TheVariants.{Invalid}
 
 -- a network: its first address, how many of the last bits are free, and the record in which the paths of its addresses end
 pub record Tile : Type 0 where
@@ -48,6 +47,6 @@ path s size nodes width x = down s size nodes x width 0 width 0
 abbrev pub end_of : ℕ → Tile → Place
 end_of width t = record { node = t.node; depth = width - t.rest }
 
--- a path is faulty if it ends in a record of 11 or on an internal node, which is at full width
+-- a path is faulty if it ends in a record that gives no offset or on an internal node, which is at full width
 abbrev pub Faulty : ℕ → ℕ → Place → Type 0
-Faulty nodes room p = (p.node < nodes) ⊎ (answer_of nodes room p.node p.depth ≡ Invalid)
+Faulty nodes room p = (p.node < nodes) ⊎ (answer_of nodes room p.node p.depth ≡ None)
