@@ -1,15 +1,14 @@
 // The texts of an image's metadata, as parts of the image.
 #![tactic(auto)]
 
-ghost use Rattle.std.specs.Prelude.{◌≡◌, ◌+◌, ◌≤◌, length};
+ghost use Rattle.std.specs.Prelude.{◌≡◌, ◌+◌, ◌≤◌, length, Some};
 ghost use Rattle.handle.specs.Handle.{image_bound};
-ghost use Rattle.entries.specs.declared.Span.TheVariants.{At};
 ghost use Rattle.about.specs.About.{spanned, wanted_of, in_image, text_of, part_of};
 
-use entries::{Span, description, language};
+use entries::{description, language};
 use metadata::{Metadata, Part};
 use number::room;
-use opening::{Opened, open};
+use opening::open;
 
 // Which text of the metadata is asked for. A description has a language and a text.
 #[derive(Clone, Copy)]
@@ -20,36 +19,30 @@ pub enum Wanted {
     Description,
 }
 
-fn span(s: &[u8], m: Metadata, wanted: Wanted, index: usize) -> Span
+// A text that an image does not have: no bytes at its start.
+const NOWHERE: Part = Part { from: 0, size: 0 };
+
+fn span(s: &[u8], m: Metadata, wanted: Wanted, index: usize) -> Option<Part>
     ensures { result ≡ wanted_of s.now m wanted index }
 {
     match wanted {
-        Wanted::DatabaseType => Span::At {
-            from: m.database.from,
-            size: m.database.size,
-        },
+        Wanted::DatabaseType => Some(m.database),
         Wanted::Language => language(s, m, index),
-        Wanted::DescriptionLanguage => {
-            let d = description(s, m, index);
-            d.language
-        }
-        Wanted::Description => {
-            let d = description(s, m, index);
-            d.text
-        }
+        Wanted::DescriptionLanguage => description(s, m, index).language,
+        Wanted::Description => description(s, m, index).text,
     }
 }
 
-// A span of the metadata section, which starts at `start` and has `n` bytes, seen from the image.
-fn seen(start: usize, n: usize, from: usize, size: usize) -> Part
+// A part of the metadata section, which starts at `start` and has `n` bytes, seen from the image.
+fn seen(start: usize, n: usize, part: Part) -> Part
     requires { start + n ≤ image_bound }
-    ensures value { result ≡ part_of (in_image start n (At from size)) }
+    ensures value { result ≡ part_of (in_image start n (Some part)) }
     ensures size_bound { result.from + result.size ≤ start + n }
 {
-    if room(from, size, n) {
+    if room(part.from, part.size, n) {
         Part {
-            from: start + from,
-            size,
+            from: start + part.from,
+            size: part.size,
         }
     } else {
         Part {
@@ -64,18 +57,14 @@ pub fn place(image: &[u8], wanted: Wanted, index: usize) -> Part
     ensures value { result ≡ part_of (text_of image.now wanted index) }
     ensures size_in_bounds { result.from + result.size ≤ length image.now }
 {
-    match open(image) {
-        Opened::Is(reader) => {
-            let h = reader.handle;
-            let m = reader.metadata;
-            let start = h.meta as usize;
-            let s = &image[start..];
-            match span(s, m, wanted, index) {
-                Span::At { from, size } => seen(start, s.len(), from, size),
-                Span::Absent => Part { from: 0, size: 0 },
-            }
-        }
-        Opened::Refused(_) => Part { from: 0, size: 0 },
+    let Ok(reader) = open(image) else {
+        return NOWHERE;
+    };
+    let start = reader.handle.meta as usize;
+    let s = &image[start..];
+    match span(s, reader.metadata, wanted, index) {
+        Some(part) => seen(start, s.len(), part),
+        None => NOWHERE,
     }
 }
 
@@ -83,8 +72,6 @@ pub fn text<'a>(image: &'a [u8], wanted: Wanted, index: usize) -> &'a [u8]
     ensures result_value { result.now ≡ spanned image.now (text_of image.now wanted index) }
     ensures ref_ptr_value { result.ref_ptr ≡ (image.entry.ref_ptr.0, image.entry.ref_ptr.1 + (text_of image.now wanted index).0) }
 {
-    let p = place(image, wanted, index);
-    let from = p.from;
-    let end = from + p.size;
-    &image[from..end]
+    let part = place(image, wanted, index);
+    &image[part.from..part.from + part.size]
 }

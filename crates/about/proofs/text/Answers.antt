@@ -7,8 +7,8 @@ use Rattle.about.proofs.text.Goals as goal
 
 pub returns : goal.returns
 returns c = let a = c.args in
-    let p = c.place-p.result in
-    let e = c.place-p.ensures.value in
+    let p = c.place-part.result in
+    let e = c.place-part.ensures.value in
     record {
       result_value =
           ap (λ (j : ℕ). take j (drop p.from a.image.now)) (add-sub_cancel_left p.from p.size)
