@@ -70,7 +70,7 @@ fn enter(kind: Kind, size: usize, first: usize, c: Charge) -> Option<Inside>
     })
 }
 
-#[tactic(auto, unfolding(crate::specs::Steps::inside_at))]
+#[tactic(auto, using(crate::proofs::PathLaws::entered_small), unfolding(crate::specs::Steps::inside_at))]
 fn consume_container_header(s: &[u8], c: Cursor, wanted: Kind) -> Option<Inside>
     ensures { result ≡ inside_at s.now c (type_number wanted) }
 {
@@ -92,7 +92,7 @@ fn past_value(s: &[u8], place: usize, charge: Charge) -> Option<Pair>
 }
 
 // Every key that is compared is charged, the equal one too.
-#[tactic(auto, unfolding(crate::specs::Steps::pair_at))]
+#[tactic(auto, using(crate::proofs::PathLaws::name_inside), unfolding(crate::specs::Steps::pair_at))]
 fn pair_at(s: &[u8], key: &[u8], c: Cursor) -> Option<Pair>
     ensures { result ≡ pair_at s.now key.now c.place c.charge }
 {

@@ -4,6 +4,8 @@ use mathlib.Core.Path.{◌≡◌, refl, ap, ◌∙◌}
 use mathlib.Core.List.{List, [], ◌∷◌}
 use Rattle.std.specs.Prelude.{Ok}
 use lib.ListN.{length, get_or, take, drop, length-take}
+use mir.Syntax.{w8}
+use mir.Val.{Fits}
 use lib.Seq.{take-take, drop-drop, get_or-drop}
 use mathlib.Core.Bool.{true}
 use lib.Dec.{ltb}
@@ -48,5 +50,5 @@ front_bytes (suc n) [] b i = omega arith
 front_bytes (suc n) (a ∷ l) b zero = b zero
 front_bytes (suc n) (a ∷ l) b (suc i) = front_bytes n l (λ j. b (suc j)) i
 
-pub section_bytes : (image : List ℕ) (h : Handle) → ((i : ℕ) → get_or image i 0 < 256) → (i : ℕ) → get_or (section_of image h) i 0 < 256
-section_bytes image h b = front_bytes (data_length h) (drop h.base image) (λ i. rw get_or-drop (b (h.base + i)))
+pub section_bytes : (image : List ℕ) (h : Handle) → ((i : ℕ) → Fits w8 (get_or image i 0)) → (i : ℕ) → Fits w8 (get_or (section_of image h) i 0)
+section_bytes image h b i = record { fits = front_bytes (data_length h) (drop h.base image) (λ j. rw get_or-drop ((b (h.base + j)).fits)) i }

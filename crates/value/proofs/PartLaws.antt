@@ -1,10 +1,12 @@
 -- Laws of parts: what is handed out lies in the section.
-use Prim.Native.Nat.{ℕ, ◌+◌, ◌*◌, ◌≤◌, ◌<◌}
+use Prim.Native.Nat.{ℕ, ◌+◌, ◌*◌, ◌≤◌}
 use mathlib.Core.Path.{◌≡◌, refl, ap}
 use mathlib.Core.List.{List}
 use mathlib.Core.Bool.{Bool, true, false, cond}
 use native.Mathlib.Omega.{arith}
 use lib.ListN.{length, get_or, take, drop}
+use mir.Syntax.{w8}
+use mir.Val.{Fits}
 use Rattle.std.specs.Prelude.{Option, Some, None, Result, Ok, Err}
 use Rattle.std.proofs.lemmas.Option.{none-some, same_Some}
 use Rattle.refusal.specs.declared.Refusal.{Refusal}
@@ -58,16 +60,16 @@ part_inside s kind.Float m p c b l e = absurd (none-some _ e)
 part_inside s kind.Unknown m p c b l e = absurd (none-some _ e)
 
 -- what a place leads to lies in the section
-pub resolved_lies : (s : List ℕ) → ((i : ℕ) → get_or s i 0 < 256) → (at : ℕ) {l : Layout} → resolved_at s at ≡ Some l → Lies (length s) l.kind l.size l.payload
-resolved_lies s bytes at {l} f = (resolved_laid s bytes at {k = l.kind} {n = l.size} {q = l.payload} {e = l.next} f).0.lies
+pub resolved_lies : (s : List ℕ) → ((i : ℕ) → Fits w8 (get_or s i 0)) → (at : ℕ) (l : Layout) → resolved_at s at ≡ Some l → Lies (length s) l.kind l.size l.payload
+resolved_lies s bytes at l f = (resolved_laid s (λ i. (bytes i).fits) at {k = l.kind} {n = l.size} {q = l.payload} {e = l.next} f).0.lies
 
-on_within : (s : List ℕ) → ((i : ℕ) → get_or s i 0 < 256) → (at : ℕ) (c : Charge) (b : Bool) {n : ℕ} (x : Option Layout) → resolved_at s at ≡ x
+on_within : (s : List ℕ) → ((i : ℕ) → Fits w8 (get_or s i 0)) → (at : ℕ) (c : Charge) (b : Bool) {n : ℕ} (x : Option Layout) → resolved_at s at ≡ x
     → size_read b (on_layout s c x) ≡ Some n → payload_of x + n ≤ length s
-on_within s bytes at c b (Some l) f g = part_inside s l.kind l.size l.payload c b (resolved_lies s bytes at f) g
+on_within s bytes at c b (Some l) f g = part_inside s l.kind l.size l.payload c b (resolved_lies s bytes at l f) g
 on_within s bytes at c b None f g = absurd (none-some _ g)
 
 -- what reading finds lies in the section
-pub part_within : (s : List ℕ) → ((i : ℕ) → get_or s i 0 < 256) → (at : ℕ) (c : Charge) (b : Bool) {n : ℕ} → size_read b (read_at s at c) ≡ Some n
+pub part_within : (s : List ℕ) → ((i : ℕ) → Fits w8 (get_or s i 0)) → (at : ℕ) (c : Charge) (b : Bool) {n : ℕ} → size_read b (read_at s at c) ≡ Some n
     → payload_of (resolved_at s at) + n ≤ length s
 unfolding read_at
 part_within s bytes at c b g = on_within s bytes at c b (resolved_at s at) refl g
@@ -79,6 +81,6 @@ spanned_within p len (Some n) {y} l e =
 spanned_within p len None l e = absurd (none-some _ e)
 
 -- so does the part that is handed out
-pub part_ends : (s : List ℕ) → ((i : ℕ) → get_or s i 0 < 256) → (at : ℕ) (c : Charge) (b : Bool) {x : ℕ × ℕ} → part_at s at c b ≡ Some x → x.0 + x.1 ≤ length s
+pub part_ends : (s : List ℕ) → ((i : ℕ) → Fits w8 (get_or s i 0)) → (at : ℕ) (c : Charge) (b : Bool) (x : ℕ × ℕ) → part_at s at c b ≡ Some x → x.0 + x.1 ≤ length s
 unfolding part_at
-part_ends s bytes at c b e = spanned_within (payload_of (resolved_at s at)) (length s) (size_read b (read_at s at c)) (λ n g. part_within s bytes at c b g) e
+part_ends s bytes at c b x e = spanned_within (payload_of (resolved_at s at)) (length s) (size_read b (read_at s at c)) (λ n g. part_within s bytes at c b g) e

@@ -122,7 +122,7 @@ fn value_of(s: &[u8], layout: Layout, c: Charge) -> Result<Value, Refusal>
 }
 
 // The value that a place leads to, behind at most one pointer.
-#[tactic(auto, unfolding(crate::specs::Value::read_at))]
+#[tactic(auto, using(crate::proofs::PartLaws::resolved_lies), unfolding(crate::specs::Value::read_at))]
 pub fn read(s: &[u8], at: usize, c: Charge) -> Result<Value, Refusal>
     ensures { result ≡ read_at s.now at c }
 {
@@ -142,7 +142,7 @@ pub fn payload_size(v: Value, bytes: bool) -> Option<usize>
 }
 
 // Where the bytes of a text lie, or of a value of bytes, and how many: none where reading refuses or gives another kind.
-#[tactic(auto, unfolding(crate::specs::Parts::part_at, crate::specs::Value::read_at))]
+#[tactic(auto, using(crate::proofs::PartLaws::resolved_lies), unfolding(crate::specs::Parts::part_at, crate::specs::Value::read_at))]
 pub fn place(s: &[u8], at: usize, c: Charge, bytes: bool) -> Option<(usize, usize)>
     ensures { result ≡ part_at s.now at c bytes }
 {
@@ -152,6 +152,7 @@ pub fn place(s: &[u8], at: usize, c: Charge, bytes: bool) -> Option<(usize, usiz
 }
 
 // These bytes, as a part of the section.
+#[tactic(auto, using(crate::proofs::PartLaws::part_ends))]
 pub fn part<'a>(s: &'a [u8], at: usize, c: Charge, bytes: bool) -> Option<&'a [u8]>
     ensures { result ≡ parts s.entry (part_at s.now at c bytes) }
 {
