@@ -1,19 +1,19 @@
 // The answers as structs of numbers, in the layout of C: include/ermopinaw.h says what each number means.
 #![tactic(auto)]
 
-ghost use Rattle.std.specs.Prelude.{◌≡◌, cond};
+ghost use Rattle.std.specs.Prelude.{◌≡◌};
+ghost use Rattle.refusal.specs.Refusals.{number_of};
 ghost use Rattle.answers.specs.Answers.{opened_of, aged_of, found_of, unsigned_of, valued_of, nowhere_of, stepped_of, status_of, network_of, without_of, called_of, halted_of, scratch_of, verified_of};
 
 use charge::Charge;
 use handle::Handle;
-use lookup::Found;
-use opening::{Aged, Opened};
-use path::{Cursor, Step};
+use opening::Reader;
+use path::Cursor;
 use place::{Network, Outcome};
+use refusal::Refusal;
+use tree::Found;
 use value::Value;
-use verify::{Verified, Words};
-use walk::Status;
-use walk::rows::{Halt, NO_DATA, kind_number, offset_word};
+use walk::rows::{Halt, kind_number, offset_word};
 
 // In place of an offset, of a lookup alone.
 pub const REFUSED: u64 = 18446744073709551614;
@@ -99,74 +99,76 @@ pub struct ErmVerified {
     pub offsets: u64,
 }
 
-pub fn opened(o: Opened) -> ErmOpened
-    ensures { result ≡ opened_of o }
+// The status of a refusal: its number.
+fn word(refusal: Refusal) -> u64
+    ensures { result ≡ number_of refusal }
 {
-    match o {
-        Opened::Is(reader) => {
-            let handle = reader.handle;
-            let m = reader.metadata;
-            ErmOpened {
+    u64::from(refusal.number())
+}
+
+impl From<Result<Reader, Refusal>> for ErmOpened {
+    ghost from_gives = { λ opened r. r ≡ opened_of opened };
+
+    fn from(opened: Result<Reader, Refusal>) -> ErmOpened {
+        match opened {
+            Ok(Reader { handle, metadata }) => ErmOpened {
                 status: 0,
-                handle: handle,
-                major: m.major,
-                minor: m.minor,
-                build: m.build,
-                languages: m.languages.size as u64,
-                descriptions: m.description.size as u64,
-            }
-        }
-        Opened::Refused(number) => ErmOpened {
-            status: number as u64,
-            handle: Handle {
-                version: 0,
-                nodes: 0,
-                size: 0,
-                base: 0,
-                meta: 0,
-                start4: 0,
-                depth4: 0,
+                handle,
+                major: metadata.major,
+                minor: metadata.minor,
+                build: metadata.build,
+                languages: metadata.languages.size as u64,
+                descriptions: metadata.description.size as u64,
             },
-            major: 0,
-            minor: 0,
-            build: 0,
-            languages: 0,
-            descriptions: 0,
-        },
+            Err(refusal) => ErmOpened {
+                status: word(refusal),
+                handle: Handle {
+                    version: 0,
+                    nodes: 0,
+                    size: 0,
+                    base: 0,
+                    meta: 0,
+                    start4: 0,
+                    depth4: 0,
+                },
+                major: 0,
+                minor: 0,
+                build: 0,
+                languages: 0,
+                descriptions: 0,
+            },
+        }
     }
 }
 
-pub fn aged(a: Aged) -> ErmAged
-    ensures { result ≡ aged_of a }
-{
-    match a {
-        Aged::Is(seconds) => ErmAged {
-            status: 0,
-            seconds: seconds,
-        },
-        Aged::Refused(number) => ErmAged {
-            status: number as u64,
-            seconds: 0,
-        },
+impl From<Result<i64, Refusal>> for ErmAged {
+    ghost from_gives = { λ aged r. r ≡ aged_of aged };
+
+    fn from(aged: Result<i64, Refusal>) -> ErmAged {
+        match aged {
+            Ok(seconds) => ErmAged { status: 0, seconds },
+            Err(refusal) => ErmAged {
+                status: word(refusal),
+                seconds: 0,
+            },
+        }
     }
 }
 
-pub fn found(f: Found) -> ErmFound
-    ensures { result ≡ found_of f }
-{
-    match f {
-        Found::Data { offset, len } => ErmFound {
-            offset: offset,
-            second: len,
-        },
-        Found::NoData { len } => ErmFound {
-            offset: NO_DATA,
-            second: len,
-        },
-        Found::Refused(number) => ErmFound {
-            offset: REFUSED,
-            second: number as u64,
-        },
+impl From<Result<Found, Refusal>> for ErmFound {
+    ghost from_gives = { λ found r. r ≡ found_of found };
+
+    fn from(found: Result<Found, Refusal>) -> ErmFound {
+        match found {
+            Ok(Found { offset, len }) => ErmFound {
+                offset: offset_word(offset),
+                second: len,
+            },
+            Err(refusal) => ErmFound {
+                offset: REFUSED,
+                second: word(refusal),
+            },
+        }
     }
 }
 
@@ -175,41 +177,37 @@ fn unsigned(kind: u64, high: u64, low: u64) -> ErmValue
     ensures { result ≡ unsigned_of kind high low }
 {
     ErmValue {
-        kind: kind,
-        high: high,
-        low: low,
+        kind,
+        high,
+        low,
         integer: 0,
     }
 }
 
-fn flag(b: bool) -> u64
-    ensures { result ≡ cond b 1 0 }
-{
-    if b { 1 } else { 0 }
-}
+impl From<Result<Value, Refusal>> for ErmValue {
+    ghost from_gives = { λ value r. r ≡ valued_of value };
 
-pub fn valued(v: Value) -> ErmValue
-    ensures { result ≡ valued_of v }
-{
-    match v {
-        Value::Map(n) => unsigned(7, 0, n as u64),
-        Value::Array(n) => unsigned(11, 0, n as u64),
-        Value::Text(n) => unsigned(2, 0, n as u64),
-        Value::Bytes(n) => unsigned(4, 0, n as u64),
-        Value::U16(n) => unsigned(5, 0, n as u64),
-        Value::U32(n) => unsigned(6, 0, n as u64),
-        Value::U64(n) => unsigned(9, 0, n),
-        Value::U128(high, low) => unsigned(10, high, low),
-        Value::I32(z) => ErmValue {
-            kind: 8,
-            high: 0,
-            low: 0,
-            integer: z,
-        },
-        Value::Boolean(b) => unsigned(14, 0, flag(b)),
-        Value::Double(_, bits) => unsigned(3, 0, bits),
-        Value::Float(_, bits) => unsigned(15, 0, bits as u64),
-        Value::Refused(number) => unsigned(0, 0, number as u64),
+    fn from(value: Result<Value, Refusal>) -> ErmValue {
+        match value {
+            Ok(Value::Map(n)) => unsigned(7, 0, n as u64),
+            Ok(Value::Array(n)) => unsigned(11, 0, n as u64),
+            Ok(Value::Text(n)) => unsigned(2, 0, n as u64),
+            Ok(Value::Bytes(n)) => unsigned(4, 0, n as u64),
+            Ok(Value::U16(n)) => unsigned(5, 0, u64::from(n)),
+            Ok(Value::U32(n)) => unsigned(6, 0, u64::from(n)),
+            Ok(Value::U64(n)) => unsigned(9, 0, n),
+            Ok(Value::U128(high, low)) => unsigned(10, high, low),
+            Ok(Value::I32(integer)) => ErmValue {
+                kind: 8,
+                high: 0,
+                low: 0,
+                integer,
+            },
+            Ok(Value::Boolean(b)) => unsigned(14, 0, u64::from(b)),
+            Ok(Value::Double(_, bits)) => unsigned(3, 0, bits),
+            Ok(Value::Float(_, bits)) => unsigned(15, 0, u64::from(bits)),
+            Err(refusal) => unsigned(0, 0, word(refusal)),
+        }
     }
 }
 
@@ -217,7 +215,7 @@ fn nowhere(status: u64) -> ErmStepped
     ensures { result ≡ nowhere_of status }
 {
     ErmStepped {
-        status: status,
+        status,
         cursor: Cursor {
             place: 0,
             charge: Charge {
@@ -228,40 +226,38 @@ fn nowhere(status: u64) -> ErmStepped
     }
 }
 
-pub fn stepped(s: Step) -> ErmStepped
-    ensures { result ≡ stepped_of s }
-{
-    match s {
-        Step::At(cursor) => ErmStepped {
-            status: 0,
-            cursor: cursor,
-        },
-        Step::Absent => nowhere(ABSENT),
-        Step::Refused(number) => nowhere(number as u64),
+impl From<Result<Option<Cursor>, Refusal>> for ErmStepped {
+    ghost from_gives = { λ step r. r ≡ stepped_of step };
+
+    fn from(step: Result<Option<Cursor>, Refusal>) -> ErmStepped {
+        match step {
+            Ok(Some(cursor)) => ErmStepped { status: 0, cursor },
+            Ok(None) => nowhere(ABSENT),
+            Err(refusal) => nowhere(word(refusal)),
+        }
     }
 }
 
-pub fn status(s: Status) -> u64
+pub fn status(s: Result<(), Refusal>) -> u64
     ensures { result ≡ status_of s }
 {
     match s {
-        Status::Begun => 0,
-        Status::Refused(number) => number as u64,
+        Ok(()) => 0,
+        Err(refusal) => word(refusal),
     }
 }
 
-pub fn network(n: Network) -> ErmNetwork
-    ensures { result ≡ network_of n }
-{
-    let key = n.key;
-    let k = n.kind;
-    let o = n.offset;
-    ErmNetwork {
-        high: key.high,
-        low: key.low,
-        length: n.len,
-        kind: kind_number(k),
-        offset: offset_word(o),
+impl From<Network> for ErmNetwork {
+    ghost from_gives = { λ network r. r ≡ network_of network };
+
+    fn from(network: Network) -> ErmNetwork {
+        ErmNetwork {
+            high: network.key.high,
+            low: network.key.low,
+            length: network.len,
+            kind: kind_number(network.kind),
+            offset: offset_word(network.offset),
+        }
     }
 }
 
@@ -269,8 +265,8 @@ fn without(status: u64, taken: u64) -> ErmCalled
     ensures { result ≡ without_of status taken }
 {
     ErmCalled {
-        status: status,
-        taken: taken,
+        status,
+        taken,
         network: ErmNetwork {
             high: 0,
             low: 0,
@@ -281,19 +277,21 @@ fn without(status: u64, taken: u64) -> ErmCalled
     }
 }
 
-pub fn called(a: Outcome, taken: u64) -> ErmCalled
-    ensures { result ≡ called_of a taken }
-{
-    match a {
-        Outcome::Given(n) => ErmCalled {
-            status: 0,
-            taken: taken,
-            network: network(n),
-        },
-        Outcome::Failed(number) => without(number as u64, taken),
-        Outcome::Refused(number) => without(number as u64, taken),
-        Outcome::Paused => without(PAUSED, taken),
-        Outcome::End => without(END, taken),
+// What a walk's call answered, and how many places it took.
+impl From<(Outcome, u64)> for ErmCalled {
+    ghost from_gives = { λ call r. r ≡ called_of call.0 call.1 };
+
+    fn from((answer, taken): (Outcome, u64)) -> ErmCalled {
+        match answer {
+            Outcome::Given(network) => ErmCalled {
+                status: 0,
+                taken,
+                network: ErmNetwork::from(network),
+            },
+            Outcome::Failed(refusal) | Outcome::Refused(refusal) => without(word(refusal), taken),
+            Outcome::Paused => without(PAUSED, taken),
+            Outcome::End => without(END, taken),
+        }
     }
 }
 
@@ -302,39 +300,36 @@ pub fn halted(halt: Halt) -> u64
 {
     match halt {
         Halt::Full => 0,
-        Halt::Failed(number) => number as u64,
-        Halt::Refused(number) => number as u64,
+        Halt::Failed(refusal) | Halt::Refused(refusal) => word(refusal),
         Halt::Paused => PAUSED,
         Halt::End => END,
     }
 }
 
-pub fn scratch(w: Words) -> ErmScratch
-    ensures { result ≡ scratch_of w }
-{
-    match w {
-        Words::Are(count) => ErmScratch {
-            status: 0,
-            words: count,
-        },
-        Words::Refused(number) => ErmScratch {
-            status: number as u64,
-            words: 0,
-        },
+impl From<Result<u64, Refusal>> for ErmScratch {
+    ghost from_gives = { λ words r. r ≡ scratch_of words };
+
+    fn from(words: Result<u64, Refusal>) -> ErmScratch {
+        match words {
+            Ok(words) => ErmScratch { status: 0, words },
+            Err(refusal) => ErmScratch {
+                status: word(refusal),
+                words: 0,
+            },
+        }
     }
 }
 
-pub fn verified(v: Verified) -> ErmVerified
-    ensures { result ≡ verified_of v }
-{
-    match v {
-        Verified::Accepted(offsets) => ErmVerified {
-            status: 0,
-            offsets: offsets,
-        },
-        Verified::Refused(number) => ErmVerified {
-            status: number as u64,
-            offsets: 0,
-        },
+impl From<Result<u64, Refusal>> for ErmVerified {
+    ghost from_gives = { λ verdict r. r ≡ verified_of verdict };
+
+    fn from(verdict: Result<u64, Refusal>) -> ErmVerified {
+        match verdict {
+            Ok(offsets) => ErmVerified { status: 0, offsets },
+            Err(refusal) => ErmVerified {
+                status: word(refusal),
+                offsets: 0,
+            },
+        }
     }
 }

@@ -5,21 +5,20 @@ use Prim.Native.Nat.{ℕ, ◌+◌}
 use mathlib.Core.Path.{◌≡◌, sym, subst}
 use mathlib.Core.Bool.{true, false}
 use mathlib.Core.Logic.{◌↔◌}
-use Rattle.opening.specs.declared.Opened.{Opened}
-use Rattle.opening.specs.declared.Aged.{Aged}
+use lib.IntN.{ℤ}
+use Rattle.std.specs.Prelude.{Option, Result}
+use Rattle.refusal.specs.declared.Refusal.{Refusal}
+use Rattle.opening.specs.declared.Reader.{Reader}
 use Rattle.handle.specs.declared.Handle.{Handle}
 use Rattle.lookup.specs.declared.Address.{Address}
-use Rattle.lookup.specs.declared.Found.{Found}
+use Rattle.tree.specs.declared.Found.{Found}
 use Rattle.value.specs.declared.Value.{Value}
 use Rattle.path.specs.declared.Cursor.{Cursor}
-use Rattle.path.specs.declared.Step.{Step}
 use Rattle.place.specs.declared.Options.{Options}
 use Rattle.walk.specs.declared.Range.{Range}
 use Rattle.walk.specs.declared.Started.{Started}
 use Rattle.walk.specs.declared.Walk.{Walk}
 use Rattle.walk.specs.declared.Called.{Called}
-use Rattle.verify.specs.declared.Verified.{Verified}
-use Rattle.verify.specs.declared.Words.{Words}
 use Rattle.about.specs.declared.Wanted.TheVariants as wanted
 use Rattle.order.specs.Order.{Answers, None, Exactly}
 use Rattle.order.proofs.OrderLaws.{answered}
@@ -70,15 +69,15 @@ given image r x Something Is m g = record { span = x; part = record { bytes = m.
 
 module _ (image : Slice) where
   -- OPEN: 24, 1, 2, 3, 4, 5, 6, 7, 8
-  pub open_decided : (r : Opened) → Meets «open».Post (image, tt) r → Exactly (open_table image.now) (open_verdict r)
+  pub open_decided : (r : Result Reader Refusal) → Meets «open».Post (image, tt) r → Exactly (open_table image.now) (open_verdict r)
   open_decided r m = rw m.1.1 (images.«open» image.now)
 
   -- it opens exactly if none of these holds
-  pub opens_exactly : (r : Opened) → Meets «open».Post (image, tt) r → (open_verdict r ≡ Answers) ↔ None (open_table image.now)
+  pub opens_exactly : (r : Result Reader Refusal) → Meets «open».Post (image, tt) r → (open_verdict r ≡ Answers) ↔ None (open_table image.now)
   opens_exactly r m = answered (open_table image.now) (open_verdict r) (images.all_refuse image.now) (open_decided r m)
 
   -- AGE: 24, 1 to 8, 23
-  pub age_decided : (time : ℕ) (r : Aged) → Meets age.Post (image, (time, tt)) r → Exactly (age_table image.now time) (age_verdict r)
+  pub age_decided : (time : ℕ) (r : Result ℤ Refusal) → Meets age.Post (image, (time, tt)) r → Exactly (age_table image.now time) (age_verdict r)
   age_decided time r m = rw m.1.1 (images.age image.now time)
 
   -- THE TEXTS OF THE METADATA: the image's first 0 bytes exactly where it does not open or the index is past the last
@@ -107,12 +106,12 @@ module _ (image : Slice) where
 
   module _ (h : Handle) where
     -- LOOKUP: 9, 10, 11
-    pub lookup_decided : (a : Address) (r : Found) → Meets lookup.Post (image, (h, (a, tt))) r → Exactly (lookup_table image.now h a) (lookup_verdict r)
+    pub lookup_decided : (a : Address) (r : Result Found Refusal) → Meets lookup.Post (image, (h, (a, tt))) r → Exactly (lookup_table image.now h a) (lookup_verdict r)
     lookup_decided a r m = rw m.1.1 (handles.lookup image.now h a)
 
     module _ (c : Cursor) where
       -- A VALUE: 9, 15, 14
-      pub read_decided : (r : Value) → Meets read.Post (image, (h, (c, tt))) r → Exactly (read_table image.now h c) (read_verdict r)
+      pub read_decided : (r : Result Value Refusal) → Meets read.Post (image, (h, (c, tt))) r → Exactly (read_table image.now h c) (read_verdict r)
       read_decided r m = rw m.1.1 (values.read image.now h c)
 
       -- A TEXT, AND BYTES: the image's first 0 bytes exactly where reading refuses or gives another kind
@@ -126,16 +125,16 @@ module _ (image : Slice) where
 
       -- STEPS: 9, 15, 14
       pub step_key_decided :
-          (key : Slice) (r : Step) → Meets step_key.Post (image, (h, (c, (key, tt)))) r → Exactly (step_key_table image.now h c key.now) (step_verdict r)
+          (key : Slice) (r : Result (Option Cursor) Refusal) → Meets step_key.Post (image, (h, (c, (key, tt)))) r → Exactly (step_key_table image.now h c key.now) (step_verdict r)
       step_key_decided key r m = rw m.1.1 (steps.step_key image.now h c key.now)
 
       pub step_index_decided :
-          (index : ℕ) (r : Step) → Meets step_index.Post (image, (h, (c, (index, tt)))) r
+          (index : ℕ) (r : Result (Option Cursor) Refusal) → Meets step_index.Post (image, (h, (c, (index, tt)))) r
           → Exactly (step_index_table image.now h c index false) (step_verdict r)
       step_index_decided index r m = rw m.1.1 (steps.step_index image.now h c index false)
 
       pub step_from_end_decided :
-          (index : ℕ) (r : Step) → Meets step_from_end.Post (image, (h, (c, (index, tt)))) r
+          (index : ℕ) (r : Result (Option Cursor) Refusal) → Meets step_from_end.Post (image, (h, (c, (index, tt)))) r
           → Exactly (step_index_table image.now h c index true) (step_verdict r)
       step_from_end_decided index r m = rw m.1.1 (steps.step_index image.now h c index true)
 
@@ -154,12 +153,12 @@ module _ (image : Slice) where
     next_stops_once = calls.one_stop image.now h
 
   -- THE WORDS THAT VERIFICATION NEEDS: 24, 1 to 8
-  pub scratch_words_decided : (r : Words) → Meets scratch_words.Post (image, tt) r → Exactly (scratch_words_table image.now) (words_verdict r)
+  pub scratch_words_decided : (r : Result ℕ Refusal) → Meets scratch_words.Post (image, tt) r → Exactly (scratch_words_table image.now) (words_verdict r)
   scratch_words_decided r m = rw m.1.1 (images.scratch_words image.now)
 
   -- VERIFY: 24, 1 to 8, 22, 14, 17, 18, the walk's 11, 12, 19, 21 as they come, 20, 14; with the lent words afterwards
   pub verify_decided :
-      Bytes image → (scratch after : MutSlice) (budget : ℕ) (r : Verified)
+      Bytes image → (scratch after : MutSlice) (budget : ℕ) (r : Result ℕ Refusal)
       → Leaves verify.Post (image, (scratch, (budget, tt))) r (image, (after, (budget, tt)))
       → Verifies image.now scratch.now budget (out r after.now)
   verify_decided held scratch after budget r m =

@@ -4,6 +4,7 @@ use Prim.Native.Nat.{ℕ, ◌+◌, ◌/◌}
 use mathlib.Core.Path.{◌≡◌, refl, sym, subst, ap, ◌∙◌}
 use mathlib.Core.Bool.{Bool, true, false, cond, ◌&&◌}
 use mathlib.Core.List.{List, [], ◌++◌}
+use Rattle.std.specs.Prelude.{Result}
 use native.Mathlib.Omega.{arith}
 use lib.ListN.{length}
 use lib.Dec.{leb}
@@ -18,7 +19,7 @@ use Rattle.walk.specs.Starts.{begin_of}
 use Rattle.walk.specs.Calls.{next_of}
 use Rattle.walk.specs.Rows.{Run, run_of, rows_of}
 use Rattle.verify.specs.Verify.{scratch_words_of, out, verify_of}
-use Rattle.verify.specs.declared.Verified.{Verified}
+use Rattle.refusal.specs.declared.Refusal.{Refusal}
 use Rattle.maxminddb.specs.Entries.{read_of, key_of, index_of}
 use Rattle.promises.specs.Images.{open_table, time_row, age_table, scratch_words_table}
 use Rattle.promises.specs.Handles.{NoFit, lookup_table}
@@ -264,7 +265,7 @@ module _ (image : Slice) where
   pub erm_verify_leaves :
       Bytes image → (scratch after : MutSlice) (budget : ℕ) (r : ErmVerified)
       → Leaves verify.Post (image, (scratch, (budget, tt))) r (image, (after, (budget, tt)))
-      → (d : Verified) × ((r ≡ verified_of d) × Verifies image.now scratch.now budget (out d after.now))
+      → (d : Result ℕ Refusal) × ((r ≡ verified_of d) × Verifies image.now scratch.now budget (out d after.now))
   erm_verify_leaves held scratch after budget r m =
       let v = verify_of image.now scratch.now budget in
       let e : after.now ≡ v.scratch = ap (λ (x : Checked). x.scratch) m.1 in (

@@ -5,6 +5,8 @@ use mathlib.Core.Bool.{true}
 use mathlib.Core.List.{List, [], ◌∷◌}
 use native.Mathlib.Omega.{arith}
 use lib.ListN.{length}
+use Rattle.std.specs.Prelude.{Some, None, Result, Ok, Err}
+use Rattle.refusal.specs.declared.Refusal.{Refusal}
 use Rattle.number.specs.Bytes.{be_at}
 use Rattle.control.specs.Control.{kind_of, size_at, sized_at, head_at}
 use Rattle.control.specs.Pointers.{link_at}
@@ -16,17 +18,15 @@ use Rattle.fields.specs.Fields.{text_at, many, past_at, value_at}
 use Rattle.metadata.specs.Names.{bytes, field_of}
 use Rattle.metadata.specs.Metadata.{key_at, pair_at, all_seen, whole_of, gather, metadata_of}
 use Rattle.tree.specs.Marker.{agree, last_below, marker_of}
-use Rattle.tree.specs.Lookup.{down, answer_of}
+use Rattle.tree.specs.Lookup.{found, down, answer_of}
 use Rattle.tree.specs.Record.{record_at}
 use Rattle.handle.specs.Handle.{fits_of}
 use Rattle.handle.specs.declared.Handle.{Handle}
 use Rattle.lookup.specs.Lookup.{asked_of, found_from}
 use Rattle.lookup.specs.declared.Address.TheVariants.{V4}
-use Rattle.lookup.specs.declared.Found.{Found}
-use Rattle.lookup.specs.declared.Found.TheVariants.{Data}
+use Rattle.tree.specs.declared.Found.{Found}
 use Rattle.opening.specs.Opening.{open_of}
-use Rattle.opening.specs.declared.Opened.{Opened}
-use Rattle.opening.specs.declared.Opened.TheVariants as opened
+use Rattle.opening.specs.declared.Reader.{Reader}
 use Rattle.maxminddb.specs.Entries.{lookup_of}
 use Rattle.maxminddb.proofs.open.Reads as «open»
 use Rattle.maxminddb.proofs.lookup.Reads as lookup
@@ -36,7 +36,6 @@ use Rattle.place.specs.Kinds.{is_alias}
 use Rattle.place.specs.Shape.{newest_out}
 use Rattle.place.specs.Turns.{child_key, turn_of}
 use Rattle.place.specs.declared.NetworkKind.TheVariants as network
-use Rattle.place.specs.declared.Offset.TheVariants.{At, None}
 use Rattle.place.specs.declared.Outcome.{Outcome}
 use Rattle.place.specs.declared.Outcome.TheVariants.{Paused}
 use Rattle.walk.specs.Starts.{first_of, begin_of}
@@ -61,23 +60,22 @@ a_opens : Opens A handle_a
 unfolding image down record_at bytes open_of marker_of last_below agree metadata_of resolved_at stored_at lying_at head_at sized_at size_at kind_of be_at link_at entered paid gather pair_at key_at name_at field_of same_bytes value_at text_at many past_at run all_seen whole_of
 a_opens = record { reader = _; is = refl; handle = refl }
 
-a_found : lookup_of A handle_a (V4 0x01020304) ≡ Data 0 1
+a_found : lookup_of A handle_a (V4 0x01020304) ≡ Ok (found (Some 0) 1)
 unfolding image lookup_of asked_of found_from fits_of answer_of down record_at be_at bytes
 a_found = refl
 
 -- ALWAYS REFUSING: image A is opened, and an address of it is found
-pub open_answers : (lent : Slice) → lent.now ≡ A → (r : Opened) → Meets «open».Post (lent, tt) r → (n : ℕ) → r ≡ opened.Refused n → ⊥
+pub open_answers : (lent : Slice) → lent.now ≡ A → (r : Result Reader Refusal) → Meets «open».Post (lent, tt) r → (n : Refusal) → r ≡ Err n → ⊥
 open_answers lent a r m n e =
     let f = sym e ∙ m.1.1 ∙ ap open_of a ∙ a_opens.is in
-    let z : ◌≡◌ {A = ℕ} 0 1 = cc in
-    omega arith
+    cc
 
-pub lookup_answers : (lent : Slice) → lent.now ≡ A → (r : Found) → Meets lookup.Post (lent, (handle_a, (V4 0x01020304, tt))) r → r ≡ Data 0 1
+pub lookup_answers : (lent : Slice) → lent.now ≡ A → (r : Result Found Refusal) → Meets lookup.Post (lent, (handle_a, (V4 0x01020304, tt))) r → r ≡ Ok (found (Some 0) 1)
 lookup_answers lent a r m = m.1.1 ∙ ap (λ (s : List ℕ). lookup_of s handle_a (V4 0x01020304)) a ∙ a_found
 
 -- ONE NETWORK, length 0, no data: image A's full walk hands out its two networks, whatever the budgets
 abbrev networks_a : List Outcome
-networks_a = net 0 1 network.V4 (At 0) ∷ net (2 ^ 31) 1 network.V4 None ∷ []
+networks_a = net 0 1 network.V4 (Some 0) ∷ net (2 ^ 31) 1 network.V4 None ∷ []
 
 a_walked : Walked A handle_a (full_walk A handle_a) networks_a
 unfolding image bytes next_of goes out_of_shape newest_out turn_of kinds.kind_of is_alias child_key answer_of begin_of first_of fits_of down record_at be_at

@@ -6,45 +6,38 @@ use mathlib.Core.Logic.{inl, inr}
 use mathlib.Core.List.{List, [], ◌∷◌}
 use native.Mathlib.Omega.{arith}
 use lib.ListN.{length}
-use lib.Dec.{leb}
+use lib.IntN.{ℤ}
+use Rattle.std.specs.Prelude.{Option, Some, None, Result, Ok, Err}
+use Rattle.refusal.specs.declared.Refusal.{Refusal}
+use Rattle.refusal.specs.declared.Refusal.TheVariants as refusal
+use Rattle.refusal.specs.Refusals.{number_of}
+use lib.Dec.{eqb, leb}
 use borrow.Author.Tests.{leb-true, ne_eqb}
 use Rattle.order.specs.Order.{Verdict, Answers, Refuses, Ends, Pauses, Table, First, Exactly}
 use Rattle.order.proofs.OrderLaws.{exactly, refuses_not}
 use Rattle.handle.specs.Handle.{fits_of}
 use Rattle.handle.specs.declared.Handle.{Handle}
 use Rattle.handle.proofs.HandleLaws.{Fit, fit}
-use Rattle.path.specs.declared.Step.{Step}
-use Rattle.path.specs.declared.Step.TheVariants as step
-use Rattle.opening.specs.declared.Opened.{Opened}
-use Rattle.opening.specs.declared.Opened.TheVariants as opened
-use Rattle.opening.specs.declared.Aged.{Aged}
-use Rattle.opening.specs.declared.Aged.TheVariants as aged
+use Rattle.path.specs.declared.Cursor.{Cursor}
+use Rattle.opening.specs.declared.Reader.{Reader}
 use Rattle.value.specs.declared.Value.{Value}
 use Rattle.value.specs.declared.Value.TheVariants as value
 use Rattle.lookup.specs.Lookup.{asked_of, numbered, end_of, found_from}
 use Rattle.lookup.specs.declared.Address.{Address}
-use Rattle.lookup.specs.declared.Asked.{Asked}
-use Rattle.lookup.specs.declared.Asked.TheVariants as asked
-use Rattle.lookup.specs.declared.Found.TheVariants as found
-use Rattle.tree.specs.declared.Answer.{Answer}
+use Rattle.lookup.specs.declared.Way.{Way}
+use Rattle.tree.specs.declared.Found.{Found}
 use Rattle.section.specs.Section.{data_length}
-use Rattle.walk.specs.declared.Status.{Status}
-use Rattle.walk.specs.declared.Status.TheVariants as status
 use Rattle.walk.specs.declared.Walk.{Walk}
 use Rattle.walk.specs.Calls.{next_of}
 use Rattle.walk.specs.Rows.{on_answer, run_of}
 use Rattle.place.specs.declared.Outcome.{Outcome}
 use Rattle.place.specs.declared.Outcome.TheVariants as outcome
-use Rattle.verify.specs.declared.Words.{Words}
-use Rattle.verify.specs.declared.Words.TheVariants as words
-use Rattle.verify.specs.declared.Verified.{Verified}
-use Rattle.verify.specs.declared.Verified.TheVariants as verified
 use Rattle.maxminddb.specs.Answers.{open_verdict, age_verdict, lookup_verdict, read_verdict, step_verdict, start_verdict, next_verdict, words_verdict, verify_verdict}
 use Rattle.maxminddb.specs.Entries.{on_asked, lookup_of}
 use Rattle.promises.specs.Walks.{call_table}
 use Rattle.promises.proofs.Calls as calls
 use Rattle.promises.proofs.Offsets.{Told, none, offset, neither, told}
-use Rattle.answers.specs.Answers.{refused, opened_of, aged_of, found_of, valued_of, stepped_of, status_of, called_of, halted_of, scratch_of, verified_of}
+use Rattle.answers.specs.Answers.{refused, paused, end, opened_of, aged_of, found_of, valued_of, stepped_of, status_of, called_of, halted_of, scratch_of, verified_of}
 use Rattle.words.specs.Words.{held}
 use Rattle.claims.specs.Statuses.{status_of_verdict, Numbered, Shows, door, found_status, value_status, ShowsStep, Filling, Keeps}
 
@@ -61,24 +54,23 @@ numbered_first [] n v f = rw f tt
 numbered_first (row ∷ rows) n v (inl p) = subst Numbered (sym p.1) n.0
 numbered_first (row ∷ rows) n v (inr p) = numbered_first rows n.1 v p.1
 
+-- the verdict that a status tells
+abbrev told_by : ℕ → Verdict
+told_by status = cond (eqb status 0) Answers (cond (eqb status paused) Pauses (cond (eqb status end) Ends (Refuses status)))
+
+told_back : (v : Verdict) → Numbered v → told_by (status_of_verdict v) ≡ v
+told_back Answers n = refl
+told_back (Refuses k) n =
+    let a : k ≡ 0 → ⊥ = λ e. omega (arith, e, n.0) in
+    let b : k ≡ paused → ⊥ = λ e. omega (arith, e, n.1) in
+    let c : k ≡ end → ⊥ = λ e. omega (arith, e, n.1) in
+    simp (ne_eqb _ _ a, ne_eqb _ _ b, ne_eqb _ _ c)
+told_back Ends n = refl
+told_back Pauses n = refl
+
 -- two verdicts of one status are one
 one_status : (v w : Verdict) → Numbered v → Numbered w → status_of_verdict v ≡ status_of_verdict w → v ≡ w
-one_status Answers Answers n m e = refl
-one_status Answers (Refuses k) n m e = absurd (omega (arith, e, m.0))
-one_status Answers Ends n m e = absurd (omega (arith, e))
-one_status Answers Pauses n m e = absurd (omega (arith, e))
-one_status (Refuses k) Answers n m e = absurd (omega (arith, e, n.0))
-one_status (Refuses k) (Refuses l) n m e = ap Refuses e
-one_status (Refuses k) Ends n m e = absurd (omega (arith, e, n.1))
-one_status (Refuses k) Pauses n m e = absurd (omega (arith, e, n.1))
-one_status Ends Answers n m e = absurd (omega (arith, e))
-one_status Ends (Refuses k) n m e = absurd (omega (arith, e, m.1))
-one_status Ends Ends n m e = refl
-one_status Ends Pauses n m e = absurd (omega (arith, e))
-one_status Pauses Answers n m e = absurd (omega (arith, e))
-one_status Pauses (Refuses k) n m e = absurd (omega (arith, e, m.1))
-one_status Pauses Ends n m e = absurd (omega (arith, e))
-one_status Pauses Pauses n m e = refl
+one_status v w n m e = sym (told_back v n) ∙ ap told_by e ∙ told_back w m
 
 -- so a status that is the decided verdict's tells it both ways
 pub shows : (t : Table) → AllNumbered t → (v : Verdict) → Exactly t v → (status : ℕ) → status ≡ status_of_verdict v → Shows t status
@@ -95,7 +87,7 @@ door_shows passes t n v e status q =
     shows (door passes t) (number 13 refl, n) (cond passes v (Refuses 13)) (exactly (door passes t) _ (first passes)) status (q ∙ same passes)
   where
     first : (b : Bool) → First (door b t) (cond b v (Refuses 13))
-    first true = inr ((λ z. let y : ◌≡◌ {A = ℕ} 0 1 = cc in omega arith), (e v).0 refl)
+    first true = inr ((λ z. cc), (e v).0 refl)
     first false = inl (refl, refl)
 
     same : (b : Bool) → cond b (status_of_verdict v) 13 ≡ status_of_verdict (cond b v (Refuses 13))
@@ -107,32 +99,32 @@ chosen f true x y = refl
 chosen f false x y = refl
 
 -- the status of each answer is its verdict's
-pub opened_status : (d : Opened) → (opened_of d).status ≡ status_of_verdict (open_verdict d)
-opened_status (opened.Is r) = refl
-opened_status (opened.Refused n) = refl
+pub opened_status : (d : Result Reader Refusal) → (opened_of d).status ≡ status_of_verdict (open_verdict d)
+opened_status (Ok r) = refl
+opened_status (Err n) = refl
 
-pub aged_status : (d : Aged) → (aged_of d).status ≡ status_of_verdict (age_verdict d)
-aged_status (aged.Is z) = refl
-aged_status (aged.Refused n) = refl
+pub aged_status : (d : Result ℤ Refusal) → (aged_of d).status ≡ status_of_verdict (age_verdict d)
+aged_status (Ok z) = refl
+aged_status (Err n) = refl
 
-pub valued_status : (d : Value) → value_status (valued_of d) ≡ status_of_verdict (read_verdict d)
-valued_status (value.Map k) = refl
-valued_status (value.Array k) = refl
-valued_status (value.Text k) = refl
-valued_status (value.Bytes k) = refl
-valued_status (value.U16 k) = refl
-valued_status (value.U32 k) = refl
-valued_status (value.U64 k) = refl
-valued_status (value.U128 k l) = refl
-valued_status (value.I32 k) = refl
-valued_status (value.Boolean k) = refl
-valued_status (value.Double k l) = refl
-valued_status (value.Float k l) = refl
-valued_status (value.Refused k) = refl
+pub valued_status : (d : Result Value Refusal) → value_status (valued_of d) ≡ status_of_verdict (read_verdict d)
+valued_status (Ok (value.Map k)) = refl
+valued_status (Ok (value.Array k)) = refl
+valued_status (Ok (value.Text k)) = refl
+valued_status (Ok (value.Bytes k)) = refl
+valued_status (Ok (value.U16 k)) = refl
+valued_status (Ok (value.U32 k)) = refl
+valued_status (Ok (value.U64 k)) = refl
+valued_status (Ok (value.U128 k l)) = refl
+valued_status (Ok (value.I32 k)) = refl
+valued_status (Ok (value.Boolean k)) = refl
+valued_status (Ok (value.Double k l)) = refl
+valued_status (Ok (value.Float k l)) = refl
+valued_status (Err n) = refl
 
-pub start_status : (d : Status) → status_of d ≡ status_of_verdict (start_verdict d)
-start_status status.Begun = refl
-start_status (status.Refused n) = refl
+pub start_status : (d : Result Unit Refusal) → status_of d ≡ status_of_verdict (start_verdict d)
+start_status (Ok begun) = refl
+start_status (Err n) = refl
 
 pub called_status : (d : Outcome) (taken : ℕ) → (called_of d taken).status ≡ status_of_verdict (next_verdict d)
 called_status (outcome.Given n) taken = refl
@@ -141,32 +133,33 @@ called_status (outcome.Refused n) taken = refl
 called_status outcome.Paused taken = refl
 called_status outcome.End taken = refl
 
-pub words_status : (d : Words) → (scratch_of d).status ≡ status_of_verdict (words_verdict d)
-words_status (words.Are n) = refl
-words_status (words.Refused n) = refl
+pub words_status : (d : Result ℕ Refusal) → (scratch_of d).status ≡ status_of_verdict (words_verdict d)
+words_status (Ok n) = refl
+words_status (Err n) = refl
 
-pub verified_status : (d : Verified) → (verified_of d).status ≡ status_of_verdict (verify_verdict d)
-verified_status (verified.Accepted n) = refl
-verified_status (verified.Refused n) = refl
+pub verified_status : (d : Result ℕ Refusal) → (verified_of d).status ≡ status_of_verdict (verify_verdict d)
+verified_status (Ok n) = refl
+verified_status (Err n) = refl
 
-pub step_shows : (t : Table) → AllNumbered t → (d : Step) → Exactly t (step_verdict d) → (status : ℕ) → status ≡ (stepped_of d).status → ShowsStep t d status
-step_shows t n (step.At c) e status q =
+pub step_shows : (t : Table) → AllNumbered t → (d : Result (Option Cursor) Refusal) → Exactly t (step_verdict d) → (status : ℕ) → status ≡ (stepped_of d).status → ShowsStep t d status
+step_shows t n (Ok (Some c)) e status q =
     record {
-      absent = ((λ p. absurd (omega (arith, p, q))), (λ p. let y : ◌≡◌ {A = ℕ} 0 1 = cc in absurd (omega arith)));
+      absent = ((λ p. absurd (omega (arith, p, q))), (λ p. absurd cc));
       others = λ p. shows t n Answers e status q;
     }
-step_shows t n step.Absent e status q = record { absent = ((λ p. refl), (λ p. q)); others = λ p. absurd (p refl) }
-step_shows t n (step.Refused k) e status q =
+step_shows t n (Ok None) e status q = record { absent = ((λ p. refl), (λ p. q)); others = λ p. absurd (p refl) }
+step_shows t n (Err r) e status q =
+    let k = number_of r in
     let m = numbered_first t n (Refuses k) ((e (Refuses k)).0 refl) in
     record {
-      absent = ((λ p. absurd (omega (arith, p, q, m.1))), (λ p. let y : ◌≡◌ {A = ℕ} 0 1 = cc in absurd (omega arith)));
+      absent = ((λ p. absurd (omega (arith, p, q, m.1))), (λ p. absurd cc));
       others = λ p. shows t n (Refuses k) e status q;
     }
 
 -- an offset lies in the data section, so it is not the word that stands for a refusal
 module _ (s : List ℕ) (h : Handle) (f : Fit h (length s)) where
   told_status :
-      {node len : ℕ} {a : Answer} → Told h.nodes (data_length h) node len a
+      {node len : ℕ} {a : Option Found} → Told h.nodes (data_length h) node len a
       → found_status (found_of (numbered a)) ≡ status_of_verdict (lookup_verdict (numbered a))
   told_status (none l) = refl
   told_status (offset o l e) =
@@ -176,10 +169,10 @@ module _ (s : List ℕ) (h : Handle) (f : Fit h (length s)) where
       simp (ne_eqb _ _ ne)
   told_status (neither n) = refl
 
-  asked_status : (x : Asked) → found_status (found_of (on_asked s h x)) ≡ status_of_verdict (lookup_verdict (on_asked s h x))
+  asked_status : (x : Result Way Refusal) → found_status (found_of (on_asked s h x)) ≡ status_of_verdict (lookup_verdict (on_asked s h x))
   unfolding found_from
-  asked_status (asked.By w) = told_status (told h.nodes (data_length h) (end_of s h w).node (w.depth + (end_of s h w).depth))
-  asked_status (asked.Refused k) = refl
+  asked_status (Ok w) = told_status (told h.nodes (data_length h) (end_of s h w).node (w.depth + (end_of s h w).depth))
+  asked_status (Err r) = refl
 
 pub found_status_lem : (s : List ℕ) (h : Handle) (a : Address) → found_status (found_of (lookup_of s h a)) ≡ status_of_verdict (lookup_verdict (lookup_of s h a))
 unfolding lookup_of
@@ -187,8 +180,8 @@ found_status_lem s h a = by (fits_of h (length s)) refl
   where
     by :
         (b : Bool) → fits_of h (length s) ≡ b
-        → found_status (found_of (cond b (on_asked s h (asked_of h a)) (found.Refused 9)))
-        ≡ status_of_verdict (lookup_verdict (cond b (on_asked s h (asked_of h a)) (found.Refused 9)))
+        → found_status (found_of (cond b (on_asked s h (asked_of h a)) (Err refusal.Handle)))
+        ≡ status_of_verdict (lookup_verdict (cond b (on_asked s h (asked_of h a)) (Err refusal.Handle)))
     by true e = asked_status s h (fit h (length s) e) (asked_of h a)
     by false e = refl
 
@@ -249,8 +242,8 @@ module _ (s : List ℕ) (h : Handle) where
           }
       by f (outcome.Failed n) e = ends room b w _ (rw e refuses_not) (rw e)
       by f (outcome.Refused n) e = ends room b w _ (rw e refuses_not) (rw e)
-      by f outcome.Paused e = ends room b w _ (rw e (λ q. let y : ◌≡◌ {A = ℕ} 0 1 = cc in omega arith)) (rw e)
-      by f outcome.End e = ends room b w _ (rw e (λ q. let y : ◌≡◌ {A = ℕ} 0 1 = cc in omega arith)) (rw e)
+      by f outcome.Paused e = ends room b w _ (rw e (λ q. cc)) (rw e)
+      by f outcome.End e = ends room b w _ (rw e (λ q. cc)) (rw e)
 
 -- the walk's words afterwards
 pub keeps : (passes : Bool) (ws : List ℕ) (w : Walk) (after : List ℕ) → after ≡ cond passes (held ws w) ws → Keeps passes ws w after

@@ -1,6 +1,8 @@
 -- The worked table: every case of docs/SCOPE.md that is marked P, in its order, by computation. The statements, in full, are in
 -- specs/Cases.antt.
 use mathlib.Core.Path.{◌≡◌, refl}
+use Rattle.std.specs.Prelude.{None, Ok, Err}
+use Rattle.refusal.specs.declared.Refusal.TheVariants.{Ipv6InIpv4}
 use Rattle.number.specs.Bytes.{be_at}
 use Rattle.control.specs.Control.{kind_of, size_at, sized_at, head_at}
 use Rattle.control.specs.Pointers.{link_at}
@@ -13,12 +15,11 @@ use Rattle.fields.specs.Fields.{text_at, many, past_at, value_at}
 use Rattle.metadata.specs.Names.{bytes, field_of}
 use Rattle.metadata.specs.Metadata.{key_at, pair_at, all_seen, whole_of, gather, metadata_of}
 use Rattle.tree.specs.Marker.{agree, last_below, marker_of}
-use Rattle.tree.specs.Lookup.{down, answer_of}
+use Rattle.tree.specs.Lookup.{found, down, answer_of}
 use Rattle.tree.specs.Record.{record_at}
 use Rattle.handle.specs.Handle.{fits_of}
 use Rattle.lookup.specs.Lookup.{asked_of, found_from}
 use Rattle.lookup.specs.declared.Address.TheVariants.{V6}
-use Rattle.lookup.specs.declared.Found.TheVariants.{NoData, Refused}
 use Rattle.opening.specs.Opening.{open_of, age_of}
 use Rattle.maxminddb.specs.Entries.{lookup_of}
 use Rattle.place.specs.Kinds as kinds
@@ -67,7 +68,7 @@ unfolding image lookup_of asked_of found_from fits_of answer_of down record_at b
 case_7 = (refl, refl)
 
 -- and an IPv6 address of it
-pub case_7_ipv6 : looked (image 4 17 1) (V6 0 1) ≡ Refused 10
+pub case_7_ipv6 : looked (image 4 17 1) (V6 0 1) ≡ Err Ipv6InIpv4
 unfolding image lookup_of asked_of found_from fits_of answer_of down record_at bytes open_of marker_of last_below agree metadata_of resolved_at stored_at lying_at head_at sized_at size_at kind_of be_at link_at entered paid gather pair_at key_at name_at field_of same_bytes value_at text_at many past_at run all_seen whole_of
 case_7_ipv6 = refl
 
@@ -105,7 +106,7 @@ unfolding image answers next_of goes out_of_shape newest_out turn_of kinds.kind_
 case_11 = (refl, opens_1, refl)
 
 -- and the same address by its key
-pub case_11_key : looked (image 6 1 17) (V6 0 0x01020304) ≡ NoData 1
+pub case_11_key : looked (image 6 1 17) (V6 0 0x01020304) ≡ Ok (found None 1)
 unfolding image lookup_of asked_of found_from fits_of answer_of down record_at bytes open_of marker_of last_below agree metadata_of resolved_at stored_at lying_at head_at sized_at size_at kind_of be_at link_at entered paid gather pair_at key_at name_at field_of same_bytes value_at text_at many past_at run all_seen whole_of
 case_11_key = refl
 

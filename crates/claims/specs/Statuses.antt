@@ -1,10 +1,10 @@
 -- What C is told: a status is 0 for the answer asked for, a refusal's number, 256 for an absent step, 257 for Paused, 258 for End.
-use Rattle.std.specs.Prelude.{ℕ, ◌≤◌, ◌<◌, ◌/◌, ◌≡◌, Bool, true, false, cond, ◌↔◌, List, ◌∷◌, length, eqb}
+use Rattle.std.specs.Prelude.{ℕ, ◌≤◌, ◌<◌, ◌/◌, ◌≡◌, Bool, true, false, cond, ◌↔◌, List, ◌∷◌, length, eqb, Option, None, Result, Ok}
+use Rattle.refusal.specs.declared.Refusal.{Refusal}
 use Rattle.order.specs.Order.{Verdict, Answers, Refuses, Ends, Pauses, Table, First}
 use Rattle.handle.specs.declared.Handle.{Handle}
 use Rattle.handle.proofs.HandleLaws.{Fit}
-use Rattle.path.specs.declared.Step.{Step}
-use Rattle.path.specs.declared.Step.TheVariants as step
+use Rattle.path.specs.declared.Cursor.{Cursor}
 use Rattle.walk.specs.declared.Walk.{Walk}
 use Rattle.walk.specs.Calls.{next_of}
 use Rattle.maxminddb.specs.Answers.{next_verdict}
@@ -46,9 +46,9 @@ abbrev pub value_status : ErmValue → ℕ
 value_status r = cond (eqb r.kind 0) r.low 0
 
 -- a step's status: 256 exactly if it is absent, else as in the table
-pub record ShowsStep (table : Table) (d : Step) (status : ℕ) : Type 0 where
-  pub absent : (status ≡ absent) ↔ (d ≡ step.Absent)
-  pub others : (d ≡ step.Absent → ⊥) → Shows table status
+pub record ShowsStep (table : Table) (d : Result (Option Cursor) Refusal) (status : ℕ) : Type 0 where
+  pub absent : (status ≡ absent) ↔ (d ≡ Ok None)
+  pub others : (d ≡ Ok None → ⊥) → Shows table status
 
 -- a walk's call: 13 first, where the words hold no walk, then as where the entry's call ends
 pub record ShowsCall (s : List ℕ) (h : Handle) (ws : List ℕ) (b status : ℕ) : Type 0 where

@@ -7,7 +7,7 @@ use lib.Dec.{eqb, leb}
 use borrow.Author.Tests.{leb-true, eq-eqb}
 use mathlib.Core.List.{List}
 use lib.ListN.{length}
-use Rattle.refusal.specs.Refusals as refusal
+use Rattle.refusal.specs.declared.Refusal.TheVariants as refusal
 use Rattle.handle.specs.declared.Handle.{Handle}
 use Rattle.handle.specs.Handle.{fits_of}
 use Rattle.place.specs.declared.Outcome.TheVariants.{Refused}
@@ -28,10 +28,10 @@ narrow width high low e w = let l = leb-true low 4294967295 (second (eqb high 0)
 
 -- a handle that does not fit leaves the walk's words, and the rows
 module _ (s : List ℕ) (h : Handle) (ws : List ℕ) (b : ℕ) (holds : holds_walk ws ≡ true) (unfit : fits_of h (length s) ≡ false) where
-  pub next_refused : next_door s h ws b ≡ handed (called_of (Refused refusal.handle) 0) ws
+  pub next_refused : next_door s h ws b ≡ handed (called_of (Refused refusal.Handle) 0) ws
   unfolding next_door next_of
   next_refused = rw (holds, unfit, held_same ws holds)
 
-  pub rows_refused : (out : List ℕ) → rows_door s h ws out b ≡ rowed (record { status = refusal.handle; rows = 0; taken = 0 }) ws out
+  pub rows_refused : (out : List ℕ) → rows_door s h ws out b ≡ rowed (record { status = 9; rows = 0; taken = 0 }) ws out
   unfolding rows_door
   rows_refused out = simp holds (ap (rowed_in ws) (row_laws.rows_refused s h unfit (walk_of ws) b out) ∙ rw (held_same ws holds))

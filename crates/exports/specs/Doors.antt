@@ -1,6 +1,7 @@
 -- What the functions for C answer, where they take more than the entry does or write lent words.
-use Rattle.std.specs.Prelude.{ℕ, ◌^◌, ◌-◌, Bool, cond, ◌&&◌, List, length, eqb, leb}
-use Rattle.refusal.specs.Refusals.{out_of_shape}
+use Rattle.std.specs.Prelude.{ℕ, ◌^◌, ◌-◌, Bool, cond, ◌&&◌, List, length, eqb, leb, Result, Ok, Err}
+use Rattle.refusal.specs.declared.Refusal.{Refusal}
+use Rattle.refusal.specs.declared.Refusal.TheVariants.{OutOfShape}
 use Rattle.handle.specs.declared.Handle.{Handle}
 use Rattle.lookup.specs.declared.Address.{Address}
 use Rattle.lookup.specs.declared.Address.TheVariants as address
@@ -13,7 +14,7 @@ use Rattle.walk.specs.Starts.{begin_of}
 use Rattle.walk.specs.Calls.{next_of}
 use Rattle.verify.specs.Verify.{Out}
 use Rattle.maxminddb.specs.Entries.{lookup_of}
-use Rattle.answers.specs.Answers.{refused, found_of, status_of, called_of, halted_of, verified_of}
+use Rattle.answers.specs.Answers.{found_of, status_of, called_of, halted_of, verified_of}
 use Rattle.answers.specs.declared.ErmFound.{ErmFound}
 use Rattle.answers.specs.declared.ErmCalled.{ErmCalled}
 use Rattle.answers.specs.declared.ErmVerified.{ErmVerified}
@@ -28,13 +29,22 @@ in_shape width high low = cond (eqb width 32) (eqb high 0 && leb low (2 ^ 32 - 1
 abbrev pub address_of : ℕ → ℕ → ℕ → Address
 address_of width high low = cond (eqb width 32) (address.V4 low) (address.V6 high low)
 
+-- 13 for what is no address
+abbrev pub shaped : ℕ → ℕ → ℕ → Result Address Refusal
+shaped width high low = cond (in_shape width high low) (Ok (address_of width high low)) (Err OutOfShape)
+
+-- the addresses that share their first bits with one
+abbrev pub range_around : Address → ℕ → Range
+range_around (address.V4 low) len = range.Ipv4 low len
+range_around (address.V6 high low) len = range.Ipv6 (record { high = high; low = low }) len
+
 abbrev pub range_of : ℕ → ℕ → ℕ → ℕ → Range
-range_of width high low len = cond (eqb width 32) (range.Ipv4 low len) (range.Ipv6 (record { high = high; low = low }) len)
+range_of width high low len = range_around (address_of width high low) len
 
 -- 13 first, then the entry's own
 unfoldable pub lookup_door : List ℕ → Handle → ℕ → ℕ → ℕ → ErmFound
 lookup_door s h width high low =
-    cond (in_shape width high low) (found_of (lookup_of s h (address_of width high low))) (record { offset = refused; second = out_of_shape })
+    cond (in_shape width high low) (found_of (lookup_of s h (address_of width high low))) (found_of (Err OutOfShape))
 
 -- a status, and the walk's words then
 pub record Begun : Type 0 where
@@ -52,7 +62,7 @@ unfoldable pub within_door : List ℕ → Handle → ℕ → ℕ → ℕ → ℕ
 within_door s h width high low len options ws =
     cond (leb walk_words (length ws) && leb options 7 && in_shape width high low)
     (begun_in ws (begin_of s h (range_of width high low len) (options_of options)))
-    (begun out_of_shape ws)
+    (begun (status_of (Err OutOfShape)) ws)
 
 -- an answer, and the walk's words then
 pub record Handed : Type 0 where
@@ -68,7 +78,7 @@ handed_in ws c = handed (called_of c.answer c.taken) (held ws c.walk)
 -- 13 first, where the words hold no walk; then the entry's own
 unfoldable pub next_door : List ℕ → Handle → List ℕ → ℕ → Handed
 next_door s h ws budget =
-    cond (holds_walk ws) (handed_in ws (next_of s h (walk_of ws) budget)) (handed (called_of (Refused out_of_shape) 0) ws)
+    cond (holds_walk ws) (handed_in ws (next_of s h (walk_of ws) budget)) (handed (called_of (Refused OutOfShape) 0) ws)
 
 -- the answer of many rows, and the lent words then
 pub record Rowed : Type 0 where
@@ -86,7 +96,7 @@ rowed_in ws p =
 -- 13 first, where the words hold no walk
 unfoldable pub rows_door : List ℕ → Handle → List ℕ → List ℕ → ℕ → Rowed
 rows_door s h ws out budget =
-    cond (holds_walk ws) (rowed_in ws (rows_of s h (walk_of ws) budget out)) (rowed (record { status = out_of_shape; rows = 0; taken = 0 }) ws out)
+    cond (holds_walk ws) (rowed_in ws (rows_of s h (walk_of ws) budget out)) (rowed (record { status = status_of (Err OutOfShape); rows = 0; taken = 0 }) ws out)
 
 -- a verdict, and the scratch then
 pub record Checked : Type 0 where

@@ -10,19 +10,19 @@ ghost use Rattle.maxminddb.specs.Entries.{read_of, part_of, key_of, index_of};
 ghost use Rattle.verify.specs.Verify.{scratch_words_of, verify_of};
 ghost use Rattle.spans.specs.Spans.{span_of};
 ghost use Rattle.answers.specs.Answers.{opened_of, aged_of, valued_of, stepped_of, scratch_of};
-ghost use Rattle.exports.specs.Doors.{in_shape, address_of, range_of, lookup_door, begun, within_door, handed, next_door, checked, verify_door, rowed, rows_door};
+ghost use Rattle.exports.specs.Doors.{in_shape, shaped, range_around, lookup_door, begun, within_door, handed, next_door, checked, verify_door, rowed, rows_door};
 
 use about::Wanted;
 use answers::{
-    ErmAged, ErmCalled, ErmFound, ErmOpened, ErmScratch, ErmStepped, ErmValue, ErmVerified,
-    REFUSED, aged, called, found, halted, opened, scratch, status, stepped, valued, verified,
+    ErmAged, ErmCalled, ErmFound, ErmOpened, ErmScratch, ErmStepped, ErmValue, ErmVerified, halted,
+    status,
 };
 use handle::Handle;
 use lookup::Address;
 use number::Key;
 use path::Cursor;
 use place::Outcome;
-use refusal::OUT_OF_SHAPE;
+use refusal::Refusal;
 use spans::Span;
 use walk::Range;
 use walk::rows::next_rows;
@@ -48,44 +48,43 @@ fn in_shape(width: u64, high: u64, low: u64) -> bool
     }
 }
 
-fn address_of(width: u64, high: u64, low: u64) -> Address
-    requires { in_shape width high low ≡ true }
-    ensures { result ≡ address_of width high low }
+#[tactic(auto, using(crate::proofs::DoorLaws::narrow))]
+fn address_of(width: u64, high: u64, low: u64) -> Result<Address, Refusal>
+    ensures { result ≡ shaped width high low }
 {
+    if !in_shape(width, high, low) {
+        return Err(Refusal::OutOfShape);
+    }
     if width == 32 {
-        Address::V4(low as u32)
+        Ok(Address::V4(low as u32))
     } else {
-        Address::V6(high, low)
+        Ok(Address::V6(high, low))
     }
 }
 
-fn range_of(width: u64, high: u64, low: u64, len: u64) -> Range
-    requires { in_shape width high low ≡ true }
-    ensures { result ≡ range_of width high low len }
+// The addresses that share their first `len` bits with one.
+fn range_around(address: Address, len: u64) -> Range
+    ensures { result ≡ range_around address len }
 {
-    if width == 32 {
-        Range::Ipv4 {
-            addr: low as u32,
-            len: len,
-        }
-    } else {
-        Range::Ipv6 {
+    match address {
+        Address::V4(addr) => Range::Ipv4 { addr, len },
+        Address::V6(high, low) => Range::Ipv6 {
             addr: Key { high, low },
-            len: len,
-        }
+            len,
+        },
     }
 }
 
 pub fn erm_open(image: &[u8]) -> ErmOpened
     ensures { result ≡ opened_of (open_of image.now) }
 {
-    opened(maxminddb::open(image))
+    ErmOpened::from(maxminddb::open(image))
 }
 
 pub fn erm_age(image: &[u8], time: u64) -> ErmAged
     ensures { result ≡ aged_of (age_of image.now time) }
 {
-    aged(maxminddb::age(image, time))
+    ErmAged::from(maxminddb::age(image, time))
 }
 
 pub fn erm_database_type(image: &[u8]) -> Span
@@ -112,22 +111,18 @@ pub fn erm_description(image: &[u8], index: usize) -> Span
     spans::metadata_text(image, Wanted::Description, index)
 }
 
+#[tactic(auto, unfolding(crate::specs::Doors::lookup_door))]
 pub fn erm_lookup(image: &[u8], handle: Handle, width: u64, high: u64, low: u64) -> ErmFound
     ensures { result ≡ lookup_door image.now handle width high low }
 {
-    if !in_shape(width, high, low) {
-        return ErmFound {
-            offset: REFUSED,
-            second: OUT_OF_SHAPE as u64,
-        };
-    }
-    found(maxminddb::lookup(image, handle, address_of(width, high, low)))
+    let address = address_of(width, high, low);
+    ErmFound::from(address.and_then(|address| maxminddb::lookup(image, handle, address)))
 }
 
 pub fn erm_read(image: &[u8], handle: Handle, cursor: Cursor) -> ErmValue
     ensures { result ≡ valued_of (read_of image.now handle cursor) }
 {
-    valued(maxminddb::read(image, handle, cursor))
+    ErmValue::from(maxminddb::read(image, handle, cursor))
 }
 
 pub fn erm_text(image: &[u8], handle: Handle, cursor: Cursor) -> Span
@@ -145,21 +140,22 @@ pub fn erm_bytes(image: &[u8], handle: Handle, cursor: Cursor) -> Span
 pub fn erm_step_key(image: &[u8], handle: Handle, cursor: Cursor, key: &[u8]) -> ErmStepped
     ensures { result ≡ stepped_of (key_of image.now handle cursor key.now) }
 {
-    stepped(maxminddb::step_key(image, handle, cursor, key))
+    ErmStepped::from(maxminddb::step_key(image, handle, cursor, key))
 }
 
 pub fn erm_step_index(image: &[u8], handle: Handle, cursor: Cursor, index: usize) -> ErmStepped
     ensures { result ≡ stepped_of (index_of image.now handle cursor index false) }
 {
-    stepped(maxminddb::step_index(image, handle, cursor, index))
+    ErmStepped::from(maxminddb::step_index(image, handle, cursor, index))
 }
 
 pub fn erm_step_from_end(image: &[u8], handle: Handle, cursor: Cursor, index: usize) -> ErmStepped
     ensures { result ≡ stepped_of (index_of image.now handle cursor index true) }
 {
-    stepped(maxminddb::step_from_end(image, handle, cursor, index))
+    ErmStepped::from(maxminddb::step_from_end(image, handle, cursor, index))
 }
 
+#[tactic(auto, unfolding(crate::specs::Doors::within_door))]
 pub fn erm_within(
     image: &[u8],
     handle: Handle,
@@ -173,35 +169,34 @@ pub fn erm_within(
     ensures { begun result walk.new ≡ within_door image.now handle width high low length options walk.old }
 {
     if walk.len() < WALK_WORDS {
-        return OUT_OF_SHAPE as u64;
+        return status(Err(Refusal::OutOfShape));
     }
     if 7 < options {
-        return OUT_OF_SHAPE as u64;
+        return status(Err(Refusal::OutOfShape));
     }
-    if !in_shape(width, high, low) {
-        return OUT_OF_SHAPE as u64;
-    }
-    let range = range_of(width, high, low, length);
+    let address = match address_of(width, high, low) {
+        Ok(address) => address,
+        Err(refusal) => return status(Err(refusal)),
+    };
+    let range = range_around(address, length);
     let started = maxminddb::within(image, handle, range, options_of(options));
-    let answer = started.status;
-    let w = started.walk;
-    store(walk, w);
-    status(answer)
+    store(walk, started.walk);
+    status(started.status)
 }
 
+#[tactic(auto, unfolding(crate::specs::Doors::next_door), using(words::proofs::WordLaws::enough))]
 pub fn erm_next(image: &[u8], handle: Handle, walk: &mut [u64], budget: u64) -> ErmCalled
     ensures { handed result walk.new ≡ next_door image.now handle walk.old budget }
 {
     if !holds(walk) {
-        return called(Outcome::Refused(OUT_OF_SHAPE), 0);
+        return ErmCalled::from((Outcome::Refused(Refusal::OutOfShape), 0));
     }
     let c = maxminddb::next(image, handle, load(walk), budget);
-    let answer = c.answer;
-    let w = c.walk;
-    store(walk, w);
-    called(answer, c.taken)
+    store(walk, c.walk);
+    ErmCalled::from((c.answer, c.taken))
 }
 
+#[tactic(auto, unfolding(crate::specs::Doors::rows_door), using(words::proofs::WordLaws::enough))]
 pub fn erm_rows(
     image: &[u8],
     handle: Handle,
@@ -213,17 +208,15 @@ pub fn erm_rows(
 {
     if !holds(walk) {
         return ErmFilled {
-            status: OUT_OF_SHAPE as u64,
+            status: status(Err(Refusal::OutOfShape)),
             rows: 0,
             taken: 0,
         };
     }
     let f = next_rows(image, handle, load(walk), out, budget);
-    let halt = f.halt;
-    let w = f.walk;
-    store(walk, w);
+    store(walk, f.walk);
     ErmFilled {
-        status: halted(halt),
+        status: halted(f.halt),
         rows: f.rows,
         taken: f.taken,
     }
@@ -232,11 +225,11 @@ pub fn erm_rows(
 pub fn erm_scratch_words(image: &[u8]) -> ErmScratch
     ensures { result ≡ scratch_of (scratch_words_of image.now) }
 {
-    scratch(maxminddb::scratch_words(image))
+    ErmScratch::from(maxminddb::scratch_words(image))
 }
 
 pub fn erm_verify(image: &[u8], words: &mut [u64], budget: u64) -> ErmVerified
     ensures { checked result words.new ≡ verify_door (verify_of image.now words.old budget) }
 {
-    verified(maxminddb::verify(image, words, budget))
+    ErmVerified::from(maxminddb::verify(image, words, budget))
 }

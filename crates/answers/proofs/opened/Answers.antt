@@ -1,7 +1,0 @@
-use Rattle.answers.proofs.opened.Goals as goal
-
-pub returns-in-Is : goal.returns-in-Is
-returns-in-Is c = rw c.in-Is.is
-
-pub returns-in-Refused : goal.returns-in-Refused
-returns-in-Refused c = rw c.in-Refused.is

@@ -1,7 +1,0 @@
-use Rattle.answers.proofs.scratch.Goals as goal
-
-pub returns-in-Are : goal.returns-in-Are
-returns-in-Are c = rw c.in-Are.is
-
-pub returns-in-Refused : goal.returns-in-Refused
-returns-in-Refused c = rw c.in-Refused.is

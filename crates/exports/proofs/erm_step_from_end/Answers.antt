@@ -1,6 +1,0 @@
-use mathlib.Core.Path.{ap, ◌∙◌}
-use Rattle.answers.specs.Answers.{stepped_of}
-use Rattle.exports.proofs.erm_step_from_end.Goals as goal
-
-pub returns : goal.returns
-returns c = c.stepped.ensures ∙ ap stepped_of c.step_from_end.ensures
