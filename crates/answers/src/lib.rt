@@ -238,6 +238,7 @@ impl From<Result<Option<Cursor>, Refusal>> for ErmStepped {
     }
 }
 
+// A status alone is a number, which takes no `From` of a crate's own.
 pub fn status(s: Result<(), Refusal>) -> u64
     ensures { result ≡ status_of s }
 {
@@ -295,6 +296,7 @@ impl From<(Outcome, u64)> for ErmCalled {
     }
 }
 
+// Likewise a number: 0 where there was no room for a further row.
 pub fn halted(halt: Halt) -> u64
     ensures { result ≡ halted_of halt }
 {

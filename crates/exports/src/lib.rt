@@ -214,6 +214,7 @@ pub fn erm_rows(
         };
     }
     let f = next_rows(image, handle, load(walk), out, budget);
+    // Field by field, and by no `From`: the walk of the answer, 4 KB, is put into its words first.
     store(walk, f.walk);
     ErmFilled {
         status: halted(f.halt),

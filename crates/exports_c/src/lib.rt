@@ -1,5 +1,5 @@
 // The static library for C: include/ermopinaw.h. Each function hands its arguments to the one of `exports` that has its name, and
-// promises what that promises.
+// promises what that promises: the clauses stand in both, since a crate is a library or a static library.
 #![tactic(auto)]
 
 ghost use Rattle.std.specs.Prelude.{◌≡◌, true, false};
