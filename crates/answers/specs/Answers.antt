@@ -10,7 +10,7 @@ use Rattle.value.specs.declared.Value.TheVariants as value
 use Rattle.path.specs.declared.Cursor.{Cursor}
 use Rattle.walk.specs.declared.rows.Halt.{Halt}
 use Rattle.walk.specs.declared.rows.Halt.TheVariants as halt
-use Rattle.walk.specs.Rows.{no_data, kind_number, offset_word}
+use Rattle.walk.specs.Rows.{kind_number, offset_word}
 use Rattle.place.specs.declared.Network.{Network}
 use Rattle.place.specs.declared.Outcome.{Outcome}
 use Rattle.place.specs.declared.Outcome.TheVariants as outcome
