@@ -1,18 +1,11 @@
 use Prim.Native.Nat.{◌+◌, ℕ, ◌-◌, ◌/◌}
 use mathlib.Core.Path.{ap, ◌∙◌}
 use native.Mathlib.Omega.{arith}
-use native.Mathlib.Nat.{mod-lt}
 use lib.ListN.{set, length-set}
 use lib.Seq.{sets}
 use Rattle.listing.specs.Digits.{digits}
 use Rattle.listing.proofs.LineLaws.{digit_written, digits_written}
 use Rattle.listing.proofs.put_digits.Goals as goal
-
-pub glyph-requires : goal.glyph-requires
-glyph-requires c = omega (arith, mod-lt c.loop-left.rest {m = c.args.base} (omega arith))
-
-pub bounds-buf-at : goal.bounds-buf-at
-bounds-buf-at c = omega arith
 
 pub loop-left-preserved : goal.loop-left-preserved
 loop-left-preserved c = (
