@@ -30,11 +30,7 @@ pub fn be(s: &[u8], p: usize, n: usize) -> u64
     requires { (n ≤ 8) × (p + n ≤ length s.now) }
     ensures { (result ≡ be_at s.now p n) × (result < 2 ^ (8 * n)) }
 {
-    let mut v: u64 = 0;
-    for &b in &s[p..p + n] {
-        v = v * 256 + u64::from(b);
-    }
-    v
+    s[p..p + n].iter().fold(0, |v, &b| (v << 8) | u64::from(b))
 }
 
 // The bit of an address at `index`, counted from the top of its width.

@@ -9,9 +9,9 @@ use native.Mathlib.Omega.{arith}
 use borrow.Author.Tests.{le-leb, lt-leb, leb-true, leb-false}
 use lib.ListN.{get_or, drop, length, drop_of_length-le}
 use lib.Seq.{drop-cons}
-use Rattle.text.specs.Utf8.{within, first, after, run, well_formed, ascii}
+use Rattle.text.specs.Utf8.{bytes, within, first, after, run, well_formed, ascii}
 use Rattle.text.specs.declared.Next.{Next}
-use Rattle.text.specs.declared.Next.TheVariants.{Bytes, IllFormed}
+use Rattle.std.specs.Prelude.{Option, Some, None}
 
 abbrev pub Between : ℕ → ℕ → ℕ → Type 0
 Between lo hi b = (lo ≤ b) × (b ≤ hi)
@@ -46,69 +46,69 @@ pub below : {b n : ℕ} → b ≤ n → (m : ℕ) → leb m n ≡ false → leb 
 below {b} {n} h m t = lt-leb m b (omega (arith, leb-false m n t))
 
 -- The rows of table 3-7, and the bytes that stand in none.
-abbrev pub Row : ℕ → ℕ → Next → Type 0
+abbrev pub Row : ℕ → ℕ → Option Next → Type 0
 Row k n asked = (b : ℕ) → Between k n b → first b ≡ asked
 
-pub row_ascii : (b : ℕ) → b ≤ 0x7f → first b ≡ Bytes 0 0x80 0xbf
+pub row_ascii : (b : ℕ) → b ≤ 0x7f → first b ≡ Some (bytes 0 0x80 0xbf)
 row_ascii b h = simp (up_to h)
 
-pub row_none : Row 0x80 0xc1 IllFormed
+pub row_none : Row 0x80 0xc1 None
 row_none b h = simp (above h.0, below h.1)
 
-pub row_c2 : Row 0xc2 0xdf (Bytes 1 0x80 0xbf)
+pub row_c2 : Row 0xc2 0xdf (Some (bytes 1 0x80 0xbf))
 row_c2 b h = simp (above h.0, from h.0, up_to h.1)
 
-pub row_e0 : Row 0xe0 0xe0 (Bytes 2 0xa0 0xbf)
+pub row_e0 : Row 0xe0 0xe0 (Some (bytes 2 0xa0 0xbf))
 row_e0 b h = simp (above h.0, from h.0, up_to h.1)
 
-pub row_e1 : Row 0xe1 0xec (Bytes 2 0x80 0xbf)
+pub row_e1 : Row 0xe1 0xec (Some (bytes 2 0x80 0xbf))
 row_e1 b h = simp (above h.0, from h.0, up_to h.1)
 
-pub row_ed : Row 0xed 0xed (Bytes 2 0x80 0x9f)
+pub row_ed : Row 0xed 0xed (Some (bytes 2 0x80 0x9f))
 row_ed b h = simp (above h.0, from h.0, up_to h.1)
 
-pub row_ee : Row 0xee 0xef (Bytes 2 0x80 0xbf)
+pub row_ee : Row 0xee 0xef (Some (bytes 2 0x80 0xbf))
 row_ee b h = simp (above h.0, from h.0, up_to h.1)
 
-pub row_f0 : Row 0xf0 0xf0 (Bytes 3 0x90 0xbf)
+pub row_f0 : Row 0xf0 0xf0 (Some (bytes 3 0x90 0xbf))
 row_f0 b h = simp (above h.0, from h.0, up_to h.1)
 
-pub row_f1 : Row 0xf1 0xf3 (Bytes 3 0x80 0xbf)
+pub row_f1 : Row 0xf1 0xf3 (Some (bytes 3 0x80 0xbf))
 row_f1 b h = simp (above h.0, from h.0, up_to h.1)
 
-pub row_f4 : Row 0xf4 0xf4 (Bytes 3 0x80 0x8f)
+pub row_f4 : Row 0xf4 0xf4 (Some (bytes 3 0x80 0x8f))
 row_f4 b h = simp (above h.0, from h.0, up_to h.1)
 
-pub row_beyond : (b : ℕ) → 0xf5 ≤ b → first b ≡ IllFormed
+pub row_beyond : (b : ℕ) → 0xf5 ≤ b → first b ≡ None
 row_beyond b h = simp (above h, from h)
 
 -- the first byte of a character, and one that is not
-pub run_ill : (s : List ℕ) → run s IllFormed ≡ false
+pub run_ill : (s : List ℕ) → run s None ≡ false
 unfolding run
 run_ill [] = refl
 run_ill (b ∷ s) = refl
 
-pub run_first : (b : ℕ) (s : List ℕ) (n : Next) → first b ≡ n → well_formed (b ∷ s) ≡ run s n
+pub run_first : (b : ℕ) (s : List ℕ) (n : Option Next) → first b ≡ n → well_formed (b ∷ s) ≡ run s n
 unfolding run
 run_first b s n e = ap (run s) e
 
-pub run_later : (n lo hi b : ℕ) (s : List ℕ) → run (b ∷ s) (Bytes (suc n) lo hi) ≡ within lo hi b && run s (Bytes n 0x80 0xbf)
+pub run_later : (n lo hi b : ℕ) (s : List ℕ) → run (b ∷ s) (Some (bytes (suc n) lo hi)) ≡ within lo hi b && run s (Some (bytes n 0x80 0xbf))
 unfolding run
 run_later n lo hi b s =
     let e : suc n - 1 ≡ n = omega arith in
     rw (eqb-suc-zero n, e) (go (within lo hi b))
   where
-    go : (t : Bool) → run s (cond false (first b) (cond t (Bytes n 0x80 0xbf) IllFormed)) ≡ t && run s (Bytes n 0x80 0xbf)
+    go : (t : Bool) → run s (cond false (first b) (cond t (Some (bytes n 0x80 0xbf)) None)) ≡ t && run s (Some (bytes n 0x80 0xbf))
     go true = refl
     go false = run_ill s
 
 -- the same by the place of a byte in its text
-pub run_at : (s : List ℕ) (i need lo hi : ℕ) (n : Next) → i < length s → after need lo hi (get_or s i 0) ≡ n
-    → run (drop (i + 1) s) n ≡ run (drop i s) (Bytes need lo hi)
+pub run_at : (s : List ℕ) (i need lo hi : ℕ) (n : Option Next) → i < length s → after need lo hi (get_or s i 0) ≡ n
+    → run (drop (i + 1) s) n ≡ run (drop i s) (Some (bytes need lo hi))
 unfolding run
 run_at s i need lo hi n l e = rw (add-one, drop-cons s i 0) (ap (run (drop (suc i) s)) (sym e))
 
-pub run_end : (s : List ℕ) (i need lo hi : ℕ) → length s ≤ i → run (drop i s) (Bytes need lo hi) ≡ eqb need 0
+pub run_end : (s : List ℕ) (i need lo hi : ℕ) → length s ≤ i → run (drop i s) (Some (bytes need lo hi)) ≡ eqb need 0
 unfolding run
 run_end s i need lo hi l = rw (drop_of_length-le s l)
 

@@ -11,8 +11,8 @@ use lib.ListN.{length}
 use Rattle.text.proofs.Laws.{Between, in_yes, in_no, within_between, above, from, up_to, below}
 use Rattle.text.proofs.Laws.{Row, row_ascii, row_none, row_c2, row_e0, row_e1, row_ed, row_ee, row_f0, row_f1, row_f4, row_beyond}
 use Rattle.text.proofs.Laws.{run_ill, run_first, run_later}
-use Rattle.text.specs.Utf8.{run, first, within, well_formed, scalar, trailing, encode, all_scalar, encode_all, OfScalars}
-use Rattle.text.specs.declared.Next.TheVariants.{Bytes, IllFormed}
+use Rattle.text.specs.Utf8.{bytes, run, first, within, well_formed, scalar, trailing, encode, all_scalar, encode_all, OfScalars}
+use Rattle.std.specs.Prelude.{Some, None}
 
 -- by whether a number is at most m
 split : {C : Type 0} (m c : ℕ) → (c ≤ m → C) → (m < c → C) → C
@@ -76,13 +76,13 @@ module _ (c : ℕ) (s : List ℕ) where
       rw (encode_two c h, scalar_low c (omega arith))
       (run_first _ _ _ (row_c2 (0xc0 + c / 64) (omega arith)) ∙ simp (run_later 0, trailing_within))
 
-  three : {k n lo hi : ℕ} → Row k n (Bytes 2 lo hi) → Between 0x800 0xffff c × Between k n (0xe0 + c / 4096)
+  three : {k n lo hi : ℕ} → Row k n (Some (bytes 2 lo hi)) → Between 0x800 0xffff c × Between k n (0xe0 + c / 4096)
       → Second lo hi (trailing (c / 64)) → Splits
   three {lo} {hi} row h w =
       rw (encode_three c h.0, ← second lo hi _ w)
       (run_first _ _ _ (row _ h.1) ∙ simp (run_later 1, run_later 0, trailing_within))
 
-  four : {k n lo hi : ℕ} → Row k n (Bytes 3 lo hi) → (0xffff < c) × Between k n (0xf0 + c / 262144)
+  four : {k n lo hi : ℕ} → Row k n (Some (bytes 3 lo hi)) → (0xffff < c) × Between k n (0xf0 + c / 262144)
       → Second lo hi (trailing (c / 4096)) → Splits
   four {lo} {hi} row h w =
       rw (encode_four c h.0, ← second lo hi _ w)
@@ -115,13 +115,13 @@ record Opened (n lo hi : ℕ) (s : List ℕ) : Type 0 where
   rest : List ℕ
   is : s ≡ byte ∷ rest
   between : Between lo hi byte
-  more : run rest (Bytes n 0x80 0xbf) ≡ true
+  more : run rest (Some (bytes n 0x80 0xbf)) ≡ true
 
-opened : (n lo hi : ℕ) (s : List ℕ) → run s (Bytes (suc n) lo hi) ≡ true → Opened n lo hi s
+opened : (n lo hi : ℕ) (s : List ℕ) → run s (Some (bytes (suc n) lo hi)) ≡ true → Opened n lo hi s
 unfolding run
 opened n lo hi [] r = absurd (false≢true (sym (eqb-suc-zero n) ∙ r))
 opened n lo hi (b ∷ s) r =
-    let h = (and-eq-true_iff (within lo hi b) (run s (Bytes n 0x80 0xbf))).0 (sym (run_later n lo hi b s) ∙ r) in
+    let h = (and-eq-true_iff (within lo hi b) (run s (Some (bytes n 0x80 0xbf)))).0 (sym (run_later n lo hi b s) ∙ r) in
     record { byte = b; rest = s; is = refl; between = within_between lo hi b h.0; more = h.1 }
 
 -- a trailing byte adds six bits
@@ -137,7 +137,7 @@ module _ (a : ℕ) (s : List ℕ) (w : well_formed (a ∷ s) ≡ true) where
   abbrev Begins : Type 0
   Begins = (c : ℕ) × (t : List ℕ) × (encode c ++ t ≡ a ∷ s)
 
-  refused : first a ≡ IllFormed → Begins
+  refused : first a ≡ None → Begins
   refused e = absurd (false≢true (sym (run_ill s) ∙ sym (run_first a s _ e) ∙ w))
 
   two_first : Between 0xc2 0xdf a → Begins
@@ -148,7 +148,7 @@ module _ (a : ℕ) (s : List ℕ) (w : well_formed (a ∷ s) ≡ true) where
       let e₂ : trailing c ≡ x.byte = trailing_grown _ _ x.between in
       (c, x.rest, rw (encode_two c (omega arith), e₁, e₂) (ap (a ∷◌) (sym x.is)))
 
-  three_first : {k n lo hi : ℕ} → Row k n (Bytes 2 lo hi)
+  three_first : {k n lo hi : ℕ} → Row k n (Some (bytes 2 lo hi))
       → Between k n a × Between 0xe0 0xef a × (0x80 ≤ lo) × (hi ≤ 0xbf) × (0xe0 * 64 + 0xa0 ≤ a * 64 + lo) → Begins
   three_first {lo} {hi} row h =
       let x = opened 1 lo hi s (sym (run_first a s _ (row a h.0)) ∙ w) in
@@ -162,7 +162,7 @@ module _ (a : ℕ) (s : List ℕ) (w : well_formed (a ∷ s) ≡ true) where
       let e : a ∷ x.byte ∷ y.byte ∷ y.rest ≡ a ∷ s = cc (x.is, y.is) in
       (c, y.rest, rw (encode_three c (omega arith), e₁, e₂, e₃) e)
 
-  four_first : {k n lo hi : ℕ} → Row k n (Bytes 3 lo hi)
+  four_first : {k n lo hi : ℕ} → Row k n (Some (bytes 3 lo hi))
       → Between k n a × (0xf0 ≤ a) × (0x80 ≤ lo) × (hi ≤ 0xbf) × (0xf0 * 64 + 0x90 ≤ a * 64 + lo) → Begins
   four_first {lo} {hi} row h =
       let x = opened 2 lo hi s (sym (run_first a s _ (row a h.0)) ∙ w) in

@@ -1,39 +1,42 @@
 -- UTF-8 in the words of the Unicode standard, chapter 3: the well-formed byte sequences (table 3-7), the scalar values (D76),
 -- and how a scalar value is encoded (table 3-6).
-use Rattle.std.specs.Prelude.{ℕ, ◌+◌, ◌-◌, ◌/◌, ◌%◌, ◌≡◌, List, [], ◌∷◌, ◌++◌, Bool, true, false, cond, ◌&&◌, ◌||◌, leb, eqb}
+use Rattle.std.specs.Prelude.{ℕ, ◌+◌, ◌-◌, ◌/◌, ◌%◌, ◌≡◌, List, [], ◌∷◌, ◌++◌, Option, Some, None, Bool, true, false, cond, ◌&&◌, ◌||◌, leb, eqb}
 use Rattle.text.specs.declared.Next.{Next}
-use Rattle.text.specs.declared.Next.TheVariants.{Bytes, IllFormed}
+
+-- so many more bytes of this character, and the next of them from lo to hi
+abbrev pub bytes : ℕ → ℕ → ℕ → Next
+bytes need lo hi = record { need = need; lo = lo; hi = hi }
 
 abbrev pub within : ℕ → ℕ → ℕ → Bool
 within lo hi b = leb lo b && leb b hi
 
--- Table 3-7: what the first byte of a character asks for. `Bytes need lo hi`: need more bytes, the next of them from lo to hi.
-abbrev pub first : ℕ → Next
+-- Table 3-7: what the first byte of a character asks for; none where a character cannot begin so.
+abbrev pub first : ℕ → Option Next
 first b =
-    cond (leb b 0x7f) (Bytes 0 0x80 0xbf)
-    (cond (within 0xc2 0xdf b) (Bytes 1 0x80 0xbf)
-    (cond (within 0xe0 0xe0 b) (Bytes 2 0xa0 0xbf)
-    (cond (within 0xe1 0xec b) (Bytes 2 0x80 0xbf)
-    (cond (within 0xed 0xed b) (Bytes 2 0x80 0x9f)
-    (cond (within 0xee 0xef b) (Bytes 2 0x80 0xbf)
-    (cond (within 0xf0 0xf0 b) (Bytes 3 0x90 0xbf)
-    (cond (within 0xf1 0xf3 b) (Bytes 3 0x80 0xbf)
-    (cond (within 0xf4 0xf4 b) (Bytes 3 0x80 0x8f)
-    IllFormed))))))))
+    cond (leb b 0x7f) (Some (bytes 0 0x80 0xbf))
+    (cond (within 0xc2 0xdf b) (Some (bytes 1 0x80 0xbf))
+    (cond (within 0xe0 0xe0 b) (Some (bytes 2 0xa0 0xbf))
+    (cond (within 0xe1 0xec b) (Some (bytes 2 0x80 0xbf))
+    (cond (within 0xed 0xed b) (Some (bytes 2 0x80 0x9f))
+    (cond (within 0xee 0xef b) (Some (bytes 2 0x80 0xbf))
+    (cond (within 0xf0 0xf0 b) (Some (bytes 3 0x90 0xbf))
+    (cond (within 0xf1 0xf3 b) (Some (bytes 3 0x80 0xbf))
+    (cond (within 0xf4 0xf4 b) (Some (bytes 3 0x80 0x8f))
+    None))))))))
 
--- a byte, where `Bytes need lo hi` was asked for
-abbrev pub after : ℕ → ℕ → ℕ → ℕ → Next
-after need lo hi b = cond (eqb need 0) (first b) (cond (within lo hi b) (Bytes (need - 1) 0x80 0xbf) IllFormed)
+-- a byte, where `bytes need lo hi` was asked for
+abbrev pub after : ℕ → ℕ → ℕ → ℕ → Option Next
+after need lo hi b = cond (eqb need 0) (first b) (cond (within lo hi b) (Some (bytes (need - 1) 0x80 0xbf)) None)
 
 -- the bytes that are left, and what may come next
-unfoldable pub run : List ℕ → Next → Bool
-run [] (Bytes need lo hi) = eqb need 0
-run [] IllFormed = false
-run (b ∷ s) (Bytes need lo hi) = run s (after need lo hi b)
-run (b ∷ s) IllFormed = false
+unfoldable pub run : List ℕ → Option Next → Bool
+run [] (Some n) = eqb n.need 0
+run [] None = false
+run (b ∷ s) (Some n) = run s (after n.need n.lo n.hi b)
+run (b ∷ s) None = false
 
 abbrev pub well_formed : List ℕ → Bool
-well_formed s = run s (Bytes 0 0x80 0xbf)
+well_formed s = run s (Some (bytes 0 0x80 0xbf))
 
 -- every byte is a character of its own
 unfoldable pub ascii : List ℕ → Bool
