@@ -112,14 +112,13 @@ pub run_end : (s : List ℕ) (i need lo hi : ℕ) → length s ≤ i → run (dr
 unfolding run
 run_end s i need lo hi l = rw (drop_of_length-le s l)
 
-pub ascii_at : (s : List ℕ) (i : ℕ) (t : Bool) → i < length s → leb (get_or s i 0) 0x7f ≡ t
-    → ascii (drop i s) ≡ t && ascii (drop (i + 1) s)
+-- bytes below 128 are ASCII
+pub ascii_below : (s : List ℕ) → ((i : ℕ) → get_or s i 0 < 128) → ascii s ≡ true
 unfolding ascii
-ascii_at s i t l e = rw (add-one, drop-cons s i 0, e)
-
-pub ascii_end : (s : List ℕ) (i : ℕ) → length s ≤ i → ascii (drop i s) ≡ true
-unfolding ascii
-ascii_end s i l = rw (drop_of_length-le s l)
+ascii_below [] h = refl
+ascii_below (b ∷ s) h =
+    let l : b ≤ 0x7f = omega (arith, h 0) in
+    rw (le-leb b 0x7f l) (ascii_below s (λ i. h (suc i)))
 
 pub ascii_well_formed : (s : List ℕ) → ascii s ≡ true → well_formed s ≡ true
 unfolding ascii run
@@ -127,3 +126,7 @@ ascii_well_formed [] a = refl
 ascii_well_formed (b ∷ s) a =
     let h = (and-eq-true_iff (leb b 0x7f) (ascii s)).0 a in
     run_first b s _ (row_ascii b (leb-true b 0x7f h.0)) ∙ ascii_well_formed s h.1
+
+-- the quick test is enough for a text of bytes below 128
+pub below_well_formed : (s : List ℕ) → ((i : ℕ) → get_or s i 0 < 128) → true ≡ well_formed s
+below_well_formed s h = sym (ascii_well_formed s (ascii_below s h))

@@ -1,6 +1,7 @@
 -- UTF-8 in the words of the Unicode standard, chapter 3: the well-formed byte sequences (table 3-7), the scalar values (D76),
 -- and how a scalar value is encoded (table 3-6).
-use Rattle.std.specs.Prelude.{ℕ, ◌+◌, ◌-◌, ◌/◌, ◌%◌, ◌≡◌, List, [], ◌∷◌, ◌++◌, Option, Some, None, Bool, true, false, cond, ◌&&◌, ◌||◌, leb, eqb}
+use Rattle.std.specs.Prelude.{ℕ, ◌+◌, ◌-◌, ◌/◌, ◌%◌, ◌≡◌, List, [], ◌∷◌, ◌++◌, Option, Some, None}
+use Rattle.std.specs.Prelude.{Bool, true, false, cond, ◌&&◌, ◌||◌, leb, eqb}
 use Rattle.text.specs.declared.Next.{Next}
 
 -- so many more bytes of this character, and the next of them from lo to hi

@@ -1,10 +1,7 @@
 use native.Mathlib.Omega.{arith}
 use mathlib.Core.Path.{◌∙◌, sym}
-use Rattle.text.proofs.Laws.{run_ill, run_at, run_end, ascii_well_formed}
+use Rattle.text.proofs.Laws.{run_ill, run_at, run_end}
 use Rattle.text.proofs.utf8.Goals as goal
-
-pub returns-then-ascii : goal.returns-then-ascii
-returns-then-ascii c = sym (ascii_well_formed _ (sym c.ascii.ensures ∙ c.if-ascii.true))
 
 pub returns-in_default : goal.returns-in_default
 returns-in_default c =
