@@ -9,7 +9,7 @@ use place::{Options, Outcome};
 use recorded::read_full;
 use refusal::Refusal;
 use std::io;
-use walk::{Called, Range, Started, Walk};
+use walk::{Range, Started, Walk};
 
 // The longest image that is listed.
 const LONGEST: usize = 65536;
@@ -55,16 +55,12 @@ fn list_walk(rt: &impl Print, image: &[u8], h: Handle, begun: Walk) -> io::Resul
     let width = begun.width;
     let mut walk = begun;
     for _ in 0..CALLS {
-        let Called {
-            answer,
-            walk: after,
-            ..
-        } = maxminddb::next(image, h, walk, BUDGET);
-        write_outcome(rt, width, answer)?;
-        if matches!(answer, Outcome::End | Outcome::Refused(_)) {
+        let called = maxminddb::next(image, h, walk, BUDGET);
+        write_outcome(rt, width, called.answer)?;
+        if matches!(called.answer, Outcome::End | Outcome::Refused(_)) {
             break;
         }
-        walk = after;
+        walk = called.walk;
     }
     Ok(())
 }

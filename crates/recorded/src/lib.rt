@@ -38,12 +38,16 @@ pub struct Entry<'a> {
 }
 
 impl Answer {
-    pub fn refused(why: Refusal) -> Answer {
+    pub fn new(kind: impl Into<u8>, high: u64, low: u64) -> Answer {
         Answer {
-            kind: REFUSED,
-            high: 0,
-            low: u64::from(why.number()),
+            kind: kind.into(),
+            high,
+            low,
         }
+    }
+
+    pub fn refused(why: Refusal) -> Answer {
+        Answer::new(REFUSED, 0, u64::from(why.number()))
     }
 
     // The slot that it is counted in: refused ones are counted by their number.

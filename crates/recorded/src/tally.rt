@@ -1,4 +1,5 @@
 // What was counted, and how it is written.
+use crate::Entry;
 use refusal::Refusal;
 use std::fmt;
 
@@ -8,9 +9,19 @@ const SLOTS: usize = 25;
 // What a row counts as: by its question, by the kind of the answer that was recorded, and whether ours is equal.
 #[derive(Clone, Copy)]
 pub struct Row {
-    pub question: usize,
+    pub question: u8,
     pub kind: usize,
     pub is_equal: bool,
+}
+
+impl Row {
+    pub fn new(entry: &Entry<'_>, is_equal: bool) -> Row {
+        Row {
+            question: entry.question,
+            kind: entry.answer.slot(),
+            is_equal,
+        }
+    }
 }
 
 // Rows, and how many of them are equal.
@@ -59,7 +70,7 @@ impl Tally {
         if !row.is_equal {
             self.first = self.first.or(Some(self.all.rows));
         }
-        if let Some(count) = self.questions.get_mut(row.question) {
+        if let Some(count) = self.questions.get_mut(usize::from(row.question)) {
             count.add(row.is_equal);
         }
         if let Some(rows) = self.kinds.get_mut(row.kind) {
@@ -68,12 +79,14 @@ impl Tally {
     }
 
     // The rows of a question.
-    pub fn question(&self, slot: usize) -> Count {
+    pub fn question(&self, question: impl Into<u8>) -> Count {
+        let slot = usize::from(question.into());
         self.questions.get(slot).copied().unwrap_or_default()
     }
 
     // How many rows have a kind of answer.
-    pub fn kind(&self, slot: usize) -> u64 {
+    pub fn kind(&self, kind: impl Into<u8>) -> u64 {
+        let slot = usize::from(kind.into());
         self.kinds.get(slot).copied().unwrap_or(0)
     }
 
@@ -91,7 +104,7 @@ impl fmt::Display for Refused<'_> {
         let mut comma = "";
         for refusal in self.refusals {
             let number = refusal.number();
-            let rows = self.tally.kind(usize::from(number));
+            let rows = self.tally.kind(number);
             write!(f, "{comma} {number}: {rows}")?;
             comma = ",";
         }

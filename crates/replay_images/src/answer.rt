@@ -12,15 +12,7 @@ use tree::Found;
 const NUMBERS: usize = 16;
 
 fn plain(kind: Kind, low: u64) -> Answer {
-    pair(kind, 0, low)
-}
-
-fn pair(kind: Kind, high: u64, low: u64) -> Answer {
-    Answer {
-        kind: kind as u8,
-        high,
-        low,
-    }
+    Answer::new(kind, 0, low)
 }
 
 fn numbers_of(image: &[u8], reader: Reader) -> [u64; NUMBERS] {
@@ -78,7 +70,7 @@ fn is_text(entry: &Entry<'_>, text: &[u8]) -> bool {
 fn is_language(image: &[u8], entry: &Entry<'_>) -> bool {
     open(image).is_ok_and(|reader| {
         let is_there = entry.place < reader.metadata.languages.size;
-        is_there == (entry.answer.kind == Kind::Text as u8)
+        is_there == (entry.answer.kind == u8::from(Kind::Text))
             && is_text(entry, language(image, entry.place))
     })
 }
@@ -102,7 +94,7 @@ fn seconds(since: u64, before: u64) -> Option<i64> {
 fn is_age(image: &[u8], entry: &Entry<'_>) -> bool {
     let Answer { kind, high, low } = entry.answer;
     match age(image, number_at(entry.asked, 0, 8)) {
-        Ok(n) => kind == Kind::Seconds as u8 && seconds(high, low) == Some(n),
+        Ok(n) => kind == u8::from(Kind::Seconds) && seconds(high, low) == Some(n),
         Err(why) => entry.answer == Answer::refused(why),
     }
 }
@@ -121,7 +113,7 @@ fn answer_of(found: Result<Found, Refusal>) -> Answer {
                 offset: Some(offset),
                 len,
             },
-        ) => pair(Kind::Data, offset, len),
+        ) => Answer::new(Kind::Data, offset, len),
         Ok(Found { offset: None, len }) => plain(Kind::NoData, len),
         Err(why) => Answer::refused(why),
     }

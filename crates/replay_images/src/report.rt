@@ -19,25 +19,23 @@ const REFUSALS: [Refusal; 10] = [
 ];
 
 fn print_questions(rt: &impl Print, tally: &Tally) -> io::Result<()> {
-    let count = |question: Question| tally.question(question as usize);
-    println!(rt; "opening: {}", count(Question::Opening))?;
-    println!(rt; "database type: {}", count(Question::DatabaseType))?;
-    println!(rt; "language: {}", count(Question::Language))?;
-    println!(rt; "description: {}", count(Question::Description))?;
-    println!(rt; "age: {}", count(Question::Age))?;
-    println!(rt; "lookup: {}", count(Question::Lookup))
+    println!(rt; "opening: {}", tally.question(Question::Opening))?;
+    println!(rt; "database type: {}", tally.question(Question::DatabaseType))?;
+    println!(rt; "language: {}", tally.question(Question::Language))?;
+    println!(rt; "description: {}", tally.question(Question::Description))?;
+    println!(rt; "age: {}", tally.question(Question::Age))?;
+    println!(rt; "lookup: {}", tally.question(Question::Lookup))
 }
 
 fn print_kinds(rt: &impl Print, tally: &Tally) -> io::Result<()> {
-    let rows = |kind: Kind| tally.kind(kind as usize);
     println!(rt;
         "answers: opened {}, text {}, absent {}, seconds {}, data {}, no data {}",
-        rows(Kind::Opened),
-        rows(Kind::Text),
-        rows(Kind::Absent),
-        rows(Kind::Seconds),
-        rows(Kind::Data),
-        rows(Kind::NoData)
+        tally.kind(Kind::Opened),
+        tally.kind(Kind::Text),
+        tally.kind(Kind::Absent),
+        tally.kind(Kind::Seconds),
+        tally.kind(Kind::Data),
+        tally.kind(Kind::NoData)
     )?;
     println!(rt; "{}", tally.refused(&REFUSALS))
 }

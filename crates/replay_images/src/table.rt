@@ -35,3 +35,15 @@ pub enum Kind {
     Data = 16,
     NoData = 17,
 }
+
+impl From<Question> for u8 {
+    fn from(question: Question) -> u8 {
+        question as u8
+    }
+}
+
+impl From<Kind> for u8 {
+    fn from(kind: Kind) -> u8 {
+        kind as u8
+    }
+}

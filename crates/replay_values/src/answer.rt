@@ -9,15 +9,7 @@ use skip::skip_value;
 use value::{Value, is_empty_value_at, part, read};
 
 fn plain(kind: Kind, low: u64) -> Answer {
-    pair(kind, 0, low)
-}
-
-fn pair(kind: Kind, high: u64, low: u64) -> Answer {
-    Answer {
-        kind: kind as u8,
-        high,
-        low,
-    }
+    Answer::new(kind, 0, low)
 }
 
 // The bits of the number itself, which must be the bits that came beside it; a NaN has no bits of its own.
@@ -39,11 +31,15 @@ fn value_answer(value: Value) -> Answer {
         Value::U16(n) => plain(Kind::U16, u64::from(n)),
         Value::U32(n) => plain(Kind::U32, u64::from(n)),
         Value::U64(n) => plain(Kind::U64, n),
-        Value::U128(high, low) => pair(Kind::U128, high, low),
+        Value::U128(high, low) => Answer::new(Kind::U128, high, low),
         Value::I32(n) => plain(Kind::I32, u64::from(n.abs_diff(i32::MIN))),
         Value::Boolean(b) => plain(Kind::Boolean, u64::from(b)),
-        Value::Double(x, bits) => pair(Kind::Double, double_bits(x, bits), bits),
-        Value::Float(x, bits) => pair(Kind::Float, u64::from(float_bits(x, bits)), u64::from(bits)),
+        Value::Double(x, bits) => Answer::new(Kind::Double, double_bits(x, bits), bits),
+        Value::Float(x, bits) => Answer::new(
+            Kind::Float,
+            u64::from(float_bits(x, bits)),
+            u64::from(bits),
+        ),
     }
 }
 
@@ -68,14 +64,14 @@ fn is_read(section: &[u8], cursor: Cursor, entry: &Entry<'_>) -> bool {
             section,
             cursor,
             false,
-            answer.kind == Kind::Text as u8,
+            answer.kind == u8::from(Kind::Text),
             content,
         )
         && is_part(
             section,
             cursor,
             true,
-            answer.kind == Kind::Bytes as u8,
+            answer.kind == u8::from(Kind::Bytes),
             content,
         )
 }

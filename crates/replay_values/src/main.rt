@@ -17,7 +17,7 @@ const LEAD: usize = 526336;
 
 fn row(section: &[u8], entry: &Entry<'_>) -> Row {
     let question = if entry.asked.is_empty() {
-        usize::from(entry.question)
+        entry.question
     } else {
         AFTER_STEPS
     };

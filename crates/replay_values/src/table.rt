@@ -40,3 +40,15 @@ pub enum Kind {
     Empty = 17,
     Holds = 18,
 }
+
+impl From<Question> for u8 {
+    fn from(question: Question) -> u8 {
+        question as u8
+    }
+}
+
+impl From<Kind> for u8 {
+    fn from(kind: Kind) -> u8 {
+        kind as u8
+    }
+}

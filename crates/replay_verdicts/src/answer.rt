@@ -60,10 +60,10 @@ impl Answer {
 
     fn is_recorded(self, entry: &Entry<'_>) -> bool {
         let recorded::Answer { kind, low, .. } = entry.answer;
-        if kind == Kind::Accepted as u8 {
+        if kind == u8::from(Kind::Accepted) {
             self.is_clean && self.verdict == Ok(low)
         } else {
-            kind == Kind::Refused as u8 && self.is_refused(low)
+            kind == u8::from(Kind::Refused) && self.is_refused(low)
         }
     }
 }

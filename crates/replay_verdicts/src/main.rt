@@ -14,7 +14,7 @@ use std::io;
 
 fn row(image: &[u8], entry: &Entry<'_>) -> Row {
     Row {
-        question: usize::from(entry.question),
+        question: entry.question,
         kind: slot_of(entry),
         is_equal: is_equal(image, entry),
     }

@@ -24,23 +24,22 @@ const REFUSALS: [Refusal; 15] = [
 ];
 
 // Accepted verdicts are counted in the first slot, which no refusal has.
-const ACCEPTED: usize = 0;
+const ACCEPTED: u8 = 0;
 
 // The slot of a recorded verdict.
 pub fn slot_of(entry: &Entry<'_>) -> usize {
-    if entry.answer.kind == Kind::Refused as u8 {
+    if entry.answer.kind == u8::from(Kind::Refused) {
         entry.answer.slot()
     } else {
-        ACCEPTED
+        usize::from(ACCEPTED)
     }
 }
 
 pub fn print_tally(rt: &impl Print, tally: &Tally) -> io::Result<()> {
-    let count = |question: Question| tally.question(question as usize);
-    println!(rt; "metadata: {}", count(Question::Metadata))?;
-    println!(rt; "tree: {}", count(Question::Tree))?;
-    println!(rt; "data: {}", count(Question::Data))?;
-    println!(rt; "random: {}", count(Question::Random))?;
+    println!(rt; "metadata: {}", tally.question(Question::Metadata))?;
+    println!(rt; "tree: {}", tally.question(Question::Tree))?;
+    println!(rt; "data: {}", tally.question(Question::Data))?;
+    println!(rt; "random: {}", tally.question(Question::Random))?;
     println!(rt; "accepted {}", tally.kind(ACCEPTED))?;
     println!(rt; "{}", tally.refused(&REFUSALS))?;
     println!(rt; "{tally}")

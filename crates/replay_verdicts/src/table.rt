@@ -12,3 +12,15 @@ pub enum Kind {
     Refused = 0,
     Accepted = 1,
 }
+
+impl From<Question> for u8 {
+    fn from(question: Question) -> u8 {
+        question as u8
+    }
+}
+
+impl From<Kind> for u8 {
+    fn from(kind: Kind) -> u8 {
+        kind as u8
+    }
+}

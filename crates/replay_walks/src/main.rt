@@ -14,11 +14,7 @@ use report::print_tally;
 use std::io;
 
 fn row(image: &[u8], entry: &Entry<'_>) -> Row {
-    Row {
-        question: usize::from(entry.question),
-        kind: entry.answer.slot(),
-        is_equal: is_equal(image, entry),
-    }
+    Row::new(entry, is_equal(image, entry))
 }
 
 fn main(rt: HostRuntime) -> io::Result<()> {

@@ -8,12 +8,11 @@ use std::io;
 const REFUSALS: [Refusal; 2] = [Refusal::Ipv6InIpv4, Refusal::PrefixLength];
 
 pub fn print_tally(rt: &impl Print, tally: &Tally) -> io::Result<()> {
-    let count = |question: Question| tally.question(question as usize);
-    println!(rt; "all addresses: {}", count(Question::Whole))?;
-    println!(rt; "IPv4 ranges: {}", count(Question::Ipv4))?;
-    println!(rt; "IPv6 ranges: {}", count(Question::Ipv6))?;
-    let lines = tally.kind(Kind::Lines as usize);
-    let sums = tally.kind(Kind::Sums as usize);
+    println!(rt; "all addresses: {}", tally.question(Question::Whole))?;
+    println!(rt; "IPv4 ranges: {}", tally.question(Question::Ipv4))?;
+    println!(rt; "IPv6 ranges: {}", tally.question(Question::Ipv6))?;
+    let lines = tally.kind(Kind::Lines);
+    let sums = tally.kind(Kind::Sums);
     let refused = tally.refused(&REFUSALS);
     println!(rt; "walks line by line {lines}, by sums {sums}, {refused}")?;
     println!(rt; "{tally}")

@@ -24,3 +24,15 @@ impl TryFrom<u8> for Kind {
         }
     }
 }
+
+impl From<Question> for u8 {
+    fn from(question: Question) -> u8 {
+        question as u8
+    }
+}
+
+impl From<Kind> for u8 {
+    fn from(kind: Kind) -> u8 {
+        kind as u8
+    }
+}

@@ -2,7 +2,7 @@
 use crate::line::{LINE, Line, Sums};
 use handle::Handle;
 use place::Outcome;
-use walk::{Called, Walk};
+use walk::Walk;
 
 // No recorded walk takes so many calls.
 const CALLS: u64 = 1000000;
@@ -57,15 +57,11 @@ pub fn carry_on<'a>(
     let mut trace = Trace::new(lines);
     let mut walk = begun;
     for _ in 0..CALLS {
-        let Called {
-            answer,
-            taken,
-            walk: after,
-        } = maxminddb::next(image, h, walk, budget);
-        if !is_count(answer, taken, budget) {
+        let called = maxminddb::next(image, h, walk, budget);
+        if !is_count(called.answer, called.taken, budget) {
             return None;
         }
-        let is_next = match answer {
+        let is_next = match called.answer {
             Outcome::Given(network) => trace.hand_out(Line::from(network)),
             Outcome::Failed(why) => trace.hand_out(Line::failed(why)),
             Outcome::Paused => true,
@@ -75,7 +71,7 @@ pub fn carry_on<'a>(
         if !is_next {
             return None;
         }
-        walk = after;
+        walk = called.walk;
     }
     None
 }
