@@ -22,7 +22,7 @@ pub struct Place {
     pub len: u64,
 }
 
-// Include aliased networks; include networks without data; skip empty values.
+// Include aliased networks; include networks without data; skip empty values: three choices, none with a value beside it.
 #[derive(Clone, Copy)]
 pub struct Options {
     pub aliased: bool,
@@ -48,7 +48,7 @@ pub struct Network {
 }
 
 // What a walk's call hands out. 11, 12 and 14 fail one place, which is gone, and the walk goes on after it; 9 and 13 refuse
-// the walk as it stands.
+// the walk as it stands. No `Result`: a pause and the end are neither a network nor a refusal.
 #[derive(Clone, Copy)]
 pub enum Outcome {
     Given(Network),

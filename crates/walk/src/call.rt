@@ -26,6 +26,7 @@ pub fn next(image: &[u8], h: Handle, walk: Walk, budget: u64) -> Called
     let width = walk.width;
     let mut w = walk;
     let mut n: u64 = 0;
+    // No `for` over the budget: with none left a walk still ends, or is out of shape, before it pauses.
     loop {
         let count = w.count;
         if count == 0 {

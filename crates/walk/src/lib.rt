@@ -9,7 +9,8 @@ use number::Key;
 use place::{Options, Outcome, Place};
 use refusal::Refusal;
 
-// The waiting places, how many they are, the address width, and the options that the walk was begun with.
+// The waiting places, how many they are, the address width, and the options that the walk was begun with: one value, as
+// docs/SCOPE.md has it, so an array with a count, and a width that a forged walk may have wrong (refusal 13).
 #[derive(Drop)]
 pub struct Walk {
     pub places: [Place; 129],

@@ -18,7 +18,7 @@ pub const ROW_WORDS: usize = 5;
 // In place of an offset: no data.
 pub const NO_DATA: u64 = 18446744073709551615;
 
-// Why a call ended: no room for a further row, or as the first single call that gave no network.
+// Why a call ended: no room for a further row, or as the first single call that gave no network. No `Result`, as `Outcome` is none.
 #[derive(Clone, Copy)]
 pub enum Halt {
     Full,
@@ -99,6 +99,7 @@ pub fn next_rows(image: &[u8], h: Handle, walk: Walk, out: &mut [u64], budget: u
     let mut w = walk;
     let mut n: u64 = 0;
     let mut row: usize = 0;
+    // No `for`: a place that is passed over fills no row.
     'rows: while row < space {
         let first = w.count;
         if first == 0 {
@@ -119,7 +120,7 @@ pub fn next_rows(image: &[u8], h: Handle, walk: Walk, out: &mut [u64], budget: u
         }
         let f = (first - 1) as usize;
         let mut p = w.places[f];
-        // The newest place is held here; its room is written when it is taken, or when the call ends.
+        // The newest place is held here; its room is written when it is taken, or when the call ends. As in `call::next`, no `for`.
         loop {
             let count = w.count;
             let i = (count - 1) as usize;
