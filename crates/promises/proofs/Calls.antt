@@ -6,6 +6,7 @@ use mathlib.Core.Logic.{◌⊎◌, inl, inr, ⊎_elim}
 use mathlib.Core.List.{List}
 use native.Mathlib.Omega.{arith}
 use lib.ListN.{length}
+use Rattle.refusal.specs.declared.Refusal.TheVariants as refusal
 use Rattle.handle.specs.Handle.{fits_of}
 use Rattle.handle.specs.declared.Handle.{Handle}
 use Rattle.handle.proofs.HandleLaws.{Fit, fit, fits_of_lem}
@@ -97,12 +98,12 @@ module _ (s : List ℕ) (h : Handle) where
     fits_all =
         by_goes s h Goes
         (record {
-          end = λ n t w z. here n t w _ (λ k. absurd (k.1.0 z)) (inr ((λ x. x f), inl (z, refl))) (λ k e. let z : ◌≡◌ {A = ℕ} 0 1 = cc in absurd (omega arith)) (omega arith, refl);
+          end = λ n t w z. here n t w _ (λ k. absurd (k.1.0 z)) (inr ((λ x. x f), inl (z, refl))) (λ k e. cc) (omega arith, refl);
           out = λ n t w l o.
               let p = shape_out h.nodes w o in
-              here n t w _ (λ k. absurd (k.1.1 p)) (inr ((λ x. x f), inr (l, inl (p, refl)))) (λ k e. let z : ◌≡◌ {A = ℕ} 0 1 = cc in absurd (omega arith)) (omega arith, refl);
+              here n t w _ (λ k. absurd (k.1.1 p)) (inr ((λ x. x f), inr (l, inl (p, refl)))) (λ k e. cc) (omega arith, refl);
           paused = λ t w r.
-              here 0 t w _ (λ k. inl refl) (inr ((λ x. x f), inr (r.0, inr ((ready w r).1.1, inl (refl, refl))))) (λ k e. let z : ◌≡◌ {A = ℕ} 0 1 = cc in absurd (omega arith)) (omega arith, refl);
+              here 0 t w _ (λ k. inl refl) (inr ((λ x. x f), inr (r.0, inr ((ready w r).1.1, inl (refl, refl))))) (λ k e. cc) (omega arith, refl);
           handed = λ n t w a r e. handed n t w a r e;
           passed = λ n t w c r e q. more n t w (taken w) c (ready w r) (rw e tt) (rw e) q;
           opened = λ n t w c r e q. more n t w _ c (ready w r) (rw e tt) (rw e) q;
@@ -126,12 +127,12 @@ module _ (s : List ℕ) (h : Handle) where
             afterwards = subst (λ (m : ℕ). Afterwards c.answer m g.at c.taken c.walk) d g.afterwards;
           }
 
-      by : (t : Bool) → fits_of h (length s) ≡ t → Call s h w b (cond t (goes s h b 0 w) (called (outcome.Refused 9) 0 w))
+      by : (t : Bool) → fits_of h (length s) ≡ t → Call s h w b (cond t (goes s h b 0 w) (called (outcome.Refused refusal.Handle) 0 w))
       by true e = made (goes s h b 0 w) (fits_all (fit h (length s) e) b 0 w)
       by false e =
           let n : Fit h (length s) → ⊥ = λ f. false≢true (sym e ∙ fits_of_lem h (length s) f) in
-          made (called (outcome.Refused 9) 0 w)
-          (here b 0 w (called (outcome.Refused 9) 0 w) (λ k. absurd (n k.0)) (inl (n, refl)) (λ k q. let z : ◌≡◌ {A = ℕ} 0 1 = cc in absurd (omega arith)) (omega arith, refl))
+          made (called (outcome.Refused refusal.Handle) 0 w)
+          (here b 0 w (called (outcome.Refused refusal.Handle) 0 w) (λ k. absurd (n k.0)) (inl (n, refl)) (λ k q. cc) (omega arith, refl))
 
   -- a call ends in one place
   abbrev Stops : ℕ → Walk → Type 0

@@ -8,15 +8,16 @@ use native.Mathlib.Omega.{arith}
 use lib.ListN.{length}
 use lib.Dec.{eqb}
 use borrow.Author.Tests.{eqb-true, eqb-false}
+use Rattle.std.specs.Prelude.{Option, Ok, Err}
+use Rattle.refusal.specs.declared.Refusal.TheVariants as refusal
 use Rattle.handle.specs.Handle.{fits_of}
 use Rattle.handle.specs.declared.Handle.{Handle}
 use Rattle.handle.proofs.HandleLaws.{fit, fits_of_lem}
-use Rattle.tree.specs.declared.Answer.{Answer}
+use Rattle.tree.specs.declared.Found.{Found}
 use Rattle.section.specs.Section.{data_length}
 use Rattle.lookup.specs.Lookup.{asked_of, numbered, end_of, found_from}
 use Rattle.lookup.specs.declared.Address.{Address}
 use Rattle.lookup.specs.declared.Address.TheVariants.{V4, V6}
-use Rattle.lookup.specs.declared.Asked.TheVariants as asked
 use Rattle.lookup.specs.declared.Way.{Way}
 use Rattle.maxminddb.specs.Answers.{lookup_verdict}
 use Rattle.maxminddb.specs.Entries.{on_asked, lookup_of}
@@ -35,7 +36,7 @@ fitting verdict s h next refused rows e more =
 
 -- 11
 offset_first :
-    {nodes room node len : ℕ} {a : Answer} → Told nodes room node len a → First ((Refuses 11, NoOffset nodes room node) ∷ []) (lookup_verdict (numbered a))
+    {nodes room node len : ℕ} {a : Option Found} → Told nodes room node len a → First ((Refuses 11, NoOffset nodes room node) ∷ []) (lookup_verdict (numbered a))
 offset_first (none l) = inr ((λ p. let q = p.0 in omega arith), refl)
 offset_first (offset o l e) = inr ((λ p. p.1 o l e), refl)
 offset_first (neither n) = inl (n, refl)
@@ -56,7 +57,7 @@ module _ (s : List ℕ) (h : Handle) where
       by :
           (b : Bool) → eqb h.version 4 ≡ b
           → First ((Refuses 10, IsIpv6 (V6 high low) × (h.version ≡ 4)) ∷ ways (V6 high low))
-          (lookup_verdict (on_asked s h (cond b (asked.Refused 10) (asked.By (record { start = 0; depth = 0; width = 128; key = record { high = high; low = low } })))))
+          (lookup_verdict (on_asked s h (cond b (Err refusal.Ipv6InIpv4) (Ok (record { start = 0; depth = 0; width = 128; key = record { high = high; low = low } })))))
       by true e = inl ((tt, eqb-true h.version 4 e), refl)
       by false e = inr ((λ p. eqb-false h.version 4 e p.1), found_first _)
 

@@ -6,13 +6,14 @@ use mathlib.Core.List.{List, [], ◌++◌, drop}
 use native.Mathlib.Omega.{arith}
 use lib.Dec.{leb}
 use borrow.Author.Tests.{leb-true, leb-false}
+use Rattle.std.specs.Prelude.{Result, Ok, Err}
+use Rattle.refusal.specs.Refusals.{number_of}
+use Rattle.refusal.specs.declared.Refusal.{Refusal}
 use Rattle.tree.proofs.MarkerLaws.{marker_found}
 use Rattle.metadata.specs.Metadata.{metadata_of}
 use Rattle.metadata.specs.declared.Metadata.{Metadata}
 use Rattle.opening.specs.Opening.{last_time, metadata_section, open_of, age_on, age_of}
 use Rattle.opening.specs.declared.Reader.{Reader}
-use Rattle.opening.specs.declared.Opened.{Opened}
-use Rattle.opening.specs.declared.Opened.TheVariants as opened
 use Rattle.opening.proofs.OpeningLaws.{LastMarker, Decoded, Opens, Refuses, too_long, no_marker_lem, no_metadata, format_version_lem, ip_version_lem, no_nodes_lem, build_time_lem, record_size_lem, tree_too_long_lem, is_open, is_refused}
 use Rattle.verify.specs.Verify.{scratch_words_on, scratch_words_of}
 use Rattle.maxminddb.specs.Answers.{open_verdict, age_verdict, words_verdict}
@@ -37,8 +38,7 @@ module _ (s : List ℕ) where
     not_undecodable : Undecodable s → ⊥
     not_undecodable u =
         let e = sym d.fields ∙ one_reading d.last u.last ∙ u.wrong in
-        let z : ◌≡◌ {A = ℕ} 0 1 = cc in
-        omega arith
+        cc
 
     -- a property that these fields do not have is not one of the image's
     not_fields : (P : ℕ → Metadata → Type 0) → (P marker m → ⊥) → Fields s P → ⊥
@@ -58,7 +58,7 @@ module _ (s : List ℕ) where
   past_metadata {marker} d f =
       inr ((λ h. let k = d.short in omega arith), inr ((λ h. h marker d.last.0), inr (not_undecodable d, f)))
 
-  refused : {n : ℕ} → Refuses s n → First (open_table s) (order.Refuses n)
+  refused : {e : Refusal} → Refuses s e → First (open_table s) (order.Refuses (number_of e))
   refused (too_long h) = inl (h, refl)
   refused (no_marker_lem h f) = inr ((λ k. omega arith), inl (f, refl))
   refused (no_metadata marker h l e) =
@@ -110,9 +110,9 @@ module _ (s : List ℕ) where
         ),
       ))
 
-  first : (x : Opened) → open_of s ≡ x → First (open_table s) (open_verdict x)
-  first (opened.Is o) e = opens (is_open s e).passes
-  first (opened.Refused n) e = refused (is_refused s e)
+  first : (x : Result Reader Refusal) → open_of s ≡ x → First (open_table s) (open_verdict x)
+  first (Ok o) e = opens (is_open s e).passes
+  first (Err r) e = refused (is_refused s e)
 
   open_first : First (open_table s) (open_verdict (open_of s))
   open_first = first (open_of s) refl
@@ -127,28 +127,27 @@ module _ (s : List ℕ) where
       (refuses_not, (refuses_not, (refuses_not, (refuses_not, (refuses_not, (refuses_not, (refuses_not, (refuses_not, (refuses_not, tt)))))))))
 
   pub then :
-      (rows : Table) (answer : Opened → Verdict) → ((n : ℕ) → answer (opened.Refused n) ≡ order.Refuses n)
-      → ((r : Reader) → open_of s ≡ opened.Is r → First rows (answer (opened.Is r))) → First (open_table s ++ rows) (answer (open_of s))
+      (rows : Table) (answer : Result Reader Refusal → Verdict) → ((e : Refusal) → answer (Err e) ≡ order.Refuses (number_of e))
+      → ((r : Reader) → open_of s ≡ Ok r → First rows (answer (Ok r))) → First (open_table s ++ rows) (answer (open_of s))
   then rows answer refuse more = go (open_of s) refl
     where
-      go : (x : Opened) → open_of s ≡ x → First (open_table s ++ rows) (answer x)
-      go (opened.Is r) e = first_answered (open_table s) rows (answer (opened.Is r)) all_refuse (first (opened.Is r) e) (more r e)
-      go (opened.Refused n) e =
-          rw (refuse n) (first_refused (open_table s) rows (order.Refuses n) (first (opened.Refused n) e) refuses_not)
+      go : (x : Result Reader Refusal) → open_of s ≡ x → First (open_table s ++ rows) (answer x)
+      go (Ok r) e = first_answered (open_table s) rows (answer (Ok r)) all_refuse (first (Ok r) e) (more r e)
+      go (Err n) e = rw (refuse n) (first_refused (open_table s) rows (order.Refuses (number_of n)) (first (Err n) e) refuses_not)
 
   -- THE WORDS THAT VERIFICATION NEEDS
   pub scratch_words : Exactly (scratch_words_table s) (words_verdict (scratch_words_of s))
   unfolding scratch_words_of
   scratch_words = exactly (scratch_words_table s) _ (go (open_of s) refl)
     where
-      go : (x : Opened) → open_of s ≡ x → First (open_table s) (words_verdict (scratch_words_on s x))
-      go (opened.Is r) e = first (opened.Is r) e
-      go (opened.Refused n) e = first (opened.Refused n) e
+      go : (x : Result Reader Refusal) → open_of s ≡ x → First (open_table s) (words_verdict (scratch_words_on s x))
+      go (Ok r) e = first (Ok r) e
+      go (Err n) e = first (Err n) e
 
   -- AGE
   pub age : (time : ℕ) → Exactly (age_table s time) (age_verdict (age_of s time))
   unfolding age_of
   age time = exactly (age_table s time) _ (then (time_row time) (λ x. age_verdict (age_on time x)) (λ n. refl) (λ r e. late r))
     where
-      late : (r : Reader) → First (time_row time) (age_verdict (age_on time (opened.Is r)))
+      late : (r : Reader) → First (time_row time) (age_verdict (age_on time (Ok r)))
       late r = gate age_verdict (leb time last_time) _ _ [] (λ t h. let k = leb-true time last_time t in omega arith) (λ t. leb-false time last_time t) refl (λ t. refl)

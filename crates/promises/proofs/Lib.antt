@@ -1,4 +1,5 @@
 -- The theorems.
+pub mod Numbers
 pub mod Offsets
 pub mod Images
 pub mod Handles

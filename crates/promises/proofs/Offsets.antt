@@ -5,15 +5,15 @@ use mathlib.Core.Bool.{Bool, true, false, cond}
 use native.Mathlib.Omega.{arith}
 use lib.Dec.{leb, ltb}
 use borrow.Author.Tests.{leb-true, leb-false, ltb-true, ltb-false}
-use Rattle.tree.specs.Lookup.{offset_of, answer_of}
-use Rattle.tree.specs.declared.Answer.{Answer}
-use Rattle.tree.specs.declared.Answer.TheVariants.{Found, NotFound, Invalid}
+use Rattle.std.specs.Prelude.{Option, Some, None}
+use Rattle.tree.specs.Lookup.{found, offset_of, answer_of}
+use Rattle.tree.specs.declared.Found.{Found}
 use Rattle.promises.specs.Handles.{NoOffset}
 
-pub data Told (nodes room node len : ℕ) : Answer → Type 0 where
-  none : node ≤ nodes → Told nodes room node len (NotFound len)
-  offset : (o : ℕ) → o < room → node ≡ nodes + 16 + o → Told nodes room node len (Found o len)
-  neither : NoOffset nodes room node → Told nodes room node len Invalid
+pub data Told (nodes room node len : ℕ) : Option Found → Type 0 where
+  none : node ≤ nodes → Told nodes room node len (Some (found None len))
+  offset : (o : ℕ) → o < room → node ≡ nodes + 16 + o → Told nodes room node len (Some (found (Some o) len))
+  neither : NoOffset nodes room node → Told nodes room node len None
 
 pub told : (nodes room node len : ℕ) → Told nodes room node len (answer_of nodes room node len)
 unfolding answer_of
@@ -21,7 +21,7 @@ told nodes room node len = by (leb node nodes) (ltb node (nodes + 16)) (ltb (off
   where
     by :
         (a b c : Bool) → leb node nodes ≡ a → ltb node (nodes + 16) ≡ b → ltb (offset_of nodes node) room ≡ c
-        → Told nodes room node len (cond a (NotFound len) (cond b Invalid (cond c (Found (offset_of nodes node) len) Invalid)))
+        → Told nodes room node len (cond a (Some (found None len)) (cond b None (cond c (Some (found (Some (offset_of nodes node)) len)) None)))
     by true b c e f g = none (leb-true node nodes e)
     by false true c e f g =
         let l = leb-false node nodes e in

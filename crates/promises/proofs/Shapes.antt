@@ -8,17 +8,20 @@ use native.Mathlib.Omega.{arith}
 use lib.ListN.{length}
 use lib.Dec.{eqb, ltb, leb}
 use borrow.Author.Tests.{eq-eqb, ne_eqb, lt-ltb, lt-leb, eqb-true, eqb-false, ltb-true, ltb-false, leb-false}
+use Rattle.std.specs.Prelude.{Option, Some, None, Result, Ok, Err}
+use Rattle.std.proofs.lemmas.Bool.{or_cases}
 use Rattle.number.specs.Keys.{number_of}
+use Rattle.refusal.specs.declared.Refusal.{Refusal}
+use Rattle.refusal.specs.declared.Refusal.TheVariants as refusal
 use Rattle.handle.specs.declared.Handle.{Handle}
 use Rattle.tree.specs.Lookup.{answer_of}
-use Rattle.tree.specs.declared.Answer.{Answer}
-use Rattle.value.specs.Empty.{empty_at}
-use Rattle.value.specs.declared.Emptiness.{Emptiness}
-use Rattle.value.specs.declared.Emptiness.TheVariants.{Empty, Holds, Malformed}
+use Rattle.tree.specs.declared.Found.{Found}
+use Rattle.control.specs.Pointers.{behind_at}
+use Rattle.control.specs.declared.Head.{Head}
+use Rattle.value.specs.Empty.{empty_on, empty_at}
 use Rattle.place.specs.Kinds.{is_skipped}
 use Rattle.place.specs.Shape.{frame_out, key_out, newest_out}
-use Rattle.place.specs.Turns.{network_of, unless_empty, end_of, turn_of}
-use Rattle.place.specs.declared.Offset.TheVariants.{At, None}
+use Rattle.place.specs.Turns.{network_of, unless_empty, end_at, end_of, turn_of}
 use Rattle.place.specs.declared.Outcome.{Outcome}
 use Rattle.place.specs.declared.Outcome.TheVariants as outcome
 use Rattle.place.specs.declared.Turn.{Turn}
@@ -30,10 +33,6 @@ use Rattle.maxminddb.specs.Answers.{next_verdict}
 use Rattle.order.specs.Order.{Table, First}
 use Rattle.promises.specs.Walks.{OutOfShape, crowded, other_width, too_long, wide_key, no_room, TooDeep, BadValue, call_table}
 use Rattle.promises.proofs.Offsets.{Told, none, offset, neither, told}
-
-either : (a b : Bool) → (a || b) ≡ true → (a ≡ true) ⊎ (b ≡ true)
-either true b e = inl refl
-either false b e = inr e
 
 or_first : (a b : Bool) → a ≡ true → (a || b) ≡ true
 or_first a b e = simp e
@@ -57,7 +56,7 @@ module _ (nodes : ℕ) (w : Walk) where
       ⊎_elim
       (λ p. crowded (ltb-true 129 w.count p))
       (λ p. width_out (eqb w.width 32) (eqb w.width 128) refl refl p)
-      (either (ltb 129 w.count) (not (eqb w.width 32 || eqb w.width 128)) e)
+      (or_cases (ltb 129 w.count) (not (eqb w.width 32 || eqb w.width 128)) e)
 
   key_out_lem : key_out w.width (newest w).key ≡ true → OutOfShape nodes w
   key_out_lem e =
@@ -75,9 +74,9 @@ module _ (nodes : ℕ) (w : Walk) where
   unfolding newest_out
   newest_out_lem e =
       ⊎_elim
-      (λ p. ⊎_elim (λ q. too_long (ltb-true _ _ q)) key_out_lem (either (ltb w.width (newest w).len) (key_out w.width (newest w).key) p))
+      (λ p. ⊎_elim (λ q. too_long (ltb-true _ _ q)) key_out_lem (or_cases (ltb w.width (newest w).len) (key_out w.width (newest w).key) p))
       room_out
-      (either (ltb w.width (newest w).len || key_out w.width (newest w).key)
+      (or_cases (ltb w.width (newest w).len || key_out w.width (newest w).key)
       (ltb (newest w).value nodes && ltb (newest w).len w.width && eqb w.count 129) e)
 
   -- out of shape by the test is out of shape by the list
@@ -85,7 +84,7 @@ module _ (nodes : ℕ) (w : Walk) where
   unfolding out_of_shape
   shape_out e =
       ⊎_elim frame_out_lem (λ p. newest_out_lem ((and-eq-true_iff (ltb 0 w.count) (newest_out nodes w.count w.width (newest w))).0 p).1)
-      (either (frame_out w.count w.width) (ltb 0 w.count && newest_out nodes w.count w.width (newest w)) e)
+      (or_cases (frame_out w.count w.width) (ltb 0 w.count && newest_out nodes w.count w.width (newest w)) e)
 
   -- and the other way, where a place waits
   newest_is :
@@ -111,6 +110,15 @@ module _ (nodes : ℕ) (w : Walk) where
   pub in_shape_lem : (w.count ≡ 0 → ⊥) → out_of_shape nodes w ≡ false → OutOfShape nodes w → ⊥
   in_shape_lem live e o = false≢true (sym e ∙ out_shape live o)
 
+-- a value of which it cannot be seen whether it is empty is malformed
+only_malformed : (d : List ℕ) (o : ℕ) {x : Refusal} → empty_at d o ≡ Err x → x ≡ refusal.Malformed
+unfolding empty_at
+only_malformed d o = by (behind_at d o)
+  where
+    by : (m : Option Head) {x : Refusal} → empty_on m ≡ Err x → x ≡ refusal.Malformed
+    by (Some m) e = cc
+    by None e = cc
+
 -- what the newest place of a walk in shape comes to, by the rows 12, 11 and 14
 module _ (s : List ℕ) (h : Handle) (w : Walk) (long : (newest w).len ≤ w.width) where
   abbrev rows : Table
@@ -130,22 +138,22 @@ module _ (s : List ℕ) (h : Handle) (w : Walk) (long : (newest w).len ≤ w.wid
     not_deep p = let q = p.0 in omega arith
 
     unless :
-        (o : ℕ) → o < room → (newest w).value ≡ h.nodes + 16 + o → w.options.skipempty ≡ true → (e : Emptiness) → empty_at (data_section s h) o ≡ e
-        → By (unless_empty e (network_of h w.width (newest w) (At o)))
-    unless o l v k Empty e = tt
-    unless o l v k Holds e = inr (not_deep, inr ((λ n. n.1 o l v), inr (fine, refl)))
+        (o : ℕ) → o < room → (newest w).value ≡ h.nodes + 16 + o → w.options.skipempty ≡ true → (e : Result Bool Refusal) → empty_at (data_section s h) o ≡ e
+        → By (unless_empty e (network_of h w.width (newest w) (Some o)))
+    unless o l v k (Ok true) e = tt
+    unless o l v k (Ok false) e = inr (not_deep, inr ((λ n. n.1 o l v), inr (fine, refl)))
       where
         fine : BadValue s h w → ⊥
         fine b =
             let q : b.offset ≡ o = omega (arith, b.is) in
             let f = sym e ∙ ap (empty_at (data_section s h)) (sym q) ∙ b.malformed in
-            let z : ◌≡◌ {A = ℕ} 0 1 = cc in
-            omega arith
-    unless o l v k Malformed e =
-        inr (not_deep, inr ((λ n. n.1 o l v), inl (record { skipping = k; offset = o; inside = l; is = v; malformed = e }, refl)))
+            cc
+    unless o l v k (Err x) e =
+        let m = only_malformed (data_section s h) o e in
+        rw m (inr (not_deep, inr ((λ n. n.1 o l v), inl (record { skipping = k; offset = o; inside = l; is = v; malformed = e ∙ ap Err m }, refl))))
 
     found : (o : ℕ) → o < room → (newest w).value ≡ h.nodes + 16 + o → (k : Bool) → w.options.skipempty ≡ k
-        → By (cond k (unless_empty (empty_at (data_section s h) o) (network_of h w.width (newest w) (At o))) (Out (outcome.Given (network_of h w.width (newest w) (At o)))))
+        → By (cond k (unless_empty (empty_at (data_section s h) o) (network_of h w.width (newest w) (Some o))) (Out (outcome.Given (network_of h w.width (newest w) (Some o)))))
     found o l v true e = unless o l v e (empty_at (data_section s h) o) refl
     found o l v false e = inr (not_deep, inr ((λ n. n.1 o l v), inr ((λ b. false≢true (sym e ∙ b.skipping)), refl)))
 
@@ -153,12 +161,12 @@ module _ (s : List ℕ) (h : Handle) (w : Walk) (long : (newest w).len ≤ w.wid
     nothing l true = inr (not_deep, inr ((λ n. let q = n.0 in omega arith), inr ((λ b. omega (arith, b.is)), refl)))
     nothing l false = tt
 
-    ending : {a : Answer} → Told h.nodes room (newest w).value (newest w).len a → By (end_of (data_section s h) h w.options w.width (newest w) a)
+    ending : {a : Option Found} → Told h.nodes room (newest w).value (newest w).len a → By (end_of (data_section s h) h w.options w.width (newest w) a)
     ending (none l) = nothing l w.options.dataless
     ending (offset o l v) = found o l v w.options.skipempty refl
     ending (neither n) = inr (not_deep, inl (n, refl))
 
-  internal : (newest w).value < h.nodes → (b : Bool) → ltb (newest w).len w.width ≡ b → By (cond b Opened (Out (outcome.Failed 12)))
+  internal : (newest w).value < h.nodes → (b : Bool) → ltb (newest w).len w.width ≡ b → By (cond b Opened (Out (outcome.Failed refusal.TooDeep)))
   internal v true e = tt
   internal v false e = let l = ltb-false (newest w).len w.width e in inl ((v, omega arith), refl)
 
@@ -169,7 +177,7 @@ module _ (s : List ℕ) (h : Handle) (w : Walk) (long : (newest w).len ≤ w.wid
       by :
           (a b : Bool) → ltb (newest w).value h.nodes ≡ b
           → By (cond a Passed
-          (cond b (cond (ltb (newest w).len w.width) Opened (Out (outcome.Failed 12)))
+          (cond b (cond (ltb (newest w).len w.width) Opened (Out (outcome.Failed refusal.TooDeep)))
           (end_of (data_section s h) h w.options w.width (newest w) (answer_of h.nodes room (newest w).value (newest w).len))))
       by true b e = tt
       by false true e = internal (ltb-true _ _ e) (ltb (newest w).len w.width) refl

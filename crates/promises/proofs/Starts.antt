@@ -8,12 +8,14 @@ use native.Mathlib.Omega.{arith}
 use lib.ListN.{length}
 use lib.Dec.{leb, eqb}
 use borrow.Author.Tests.{leb-true, leb-false, eqb-true, eqb-false}
+use Rattle.std.specs.Prelude.{Ok, Err}
+use Rattle.refusal.specs.declared.Refusal.{Refusal}
+use Rattle.refusal.specs.declared.Refusal.TheVariants as refusal
 use Rattle.handle.specs.Handle.{fits_of}
 use Rattle.handle.specs.declared.Handle.{Handle}
 use Rattle.place.specs.declared.Options.{Options}
 use Rattle.walk.specs.declared.Range.{Range}
 use Rattle.walk.specs.declared.Range.TheVariants.{Ipv4, Ipv6}
-use Rattle.walk.specs.declared.Status.TheVariants as status
 use Rattle.walk.specs.declared.Started.{Started}
 use Rattle.walk.specs.Walks.{no_walk}
 use Rattle.walk.specs.Starts.{asked_of, is_ipv6_in_ipv4, first_of, refused_start, begun_with, begin_of}
@@ -37,12 +39,12 @@ module _ (s : List ℕ) (h : Handle) (o : Options) where
 
   version_first :
       (r : Range) → First ((Refuses 10, IsIpv6Range r × (h.version ≡ 4)) ∷ [])
-      (verdict (cond (is_ipv6_in_ipv4 h (asked_of r).width) (refused_start 10) (begun_with (first_of s h (asked_of r)) o)))
+      (verdict (cond (is_ipv6_in_ipv4 h (asked_of r).width) (refused_start refusal.Ipv6InIpv4) (begun_with (first_of s h (asked_of r)) o)))
   version_first (Ipv4 addr len) = by (eqb h.version 4)
     where
       by :
           (b : Bool) → First ((Refuses 10, IsIpv6Range (Ipv4 addr len) × (h.version ≡ 4)) ∷ [])
-          (verdict (cond (b && false) (refused_start 10) (begun_with (first_of s h (asked_of (Ipv4 addr len))) o)))
+          (verdict (cond (b && false) (refused_start refusal.Ipv6InIpv4) (begun_with (first_of s h (asked_of (Ipv4 addr len))) o)))
       by true = inr ((λ p. p.0), refl)
       by false = inr ((λ p. p.0), refl)
   version_first (Ipv6 addr len) = by (eqb h.version 4) refl
@@ -50,7 +52,7 @@ module _ (s : List ℕ) (h : Handle) (o : Options) where
       by :
           (b : Bool) → eqb h.version 4 ≡ b
           → First ((Refuses 10, IsIpv6Range (Ipv6 addr len) × (h.version ≡ 4)) ∷ [])
-          (verdict (cond (b && true) (refused_start 10) (begun_with (first_of s h (asked_of (Ipv6 addr len))) o)))
+          (verdict (cond (b && true) (refused_start refusal.Ipv6InIpv4) (begun_with (first_of s h (asked_of (Ipv6 addr len))) o)))
       by true e = inl ((tt, eqb-true h.version 4 e), refl)
       by false e = inr ((λ p. eqb-false h.version 4 e p.1), refl)
 
@@ -61,16 +63,16 @@ module _ (s : List ℕ) (h : Handle) (o : Options) where
       (λ t. gate verdict (leb (asked_of r).len (asked_of r).width) _ _ (drop 2 (start_table s h r)) (long r) (longer r) refl (λ u. version_first r))
 
   -- a refused start's walk
-  refused_walk : (r : Range) (n : ℕ) → (begin_of s h r o).status ≡ status.Refused n → (begin_of s h r o).walk ≡ no_walk
+  refused_walk : (r : Range) (e : Refusal) → (begin_of s h r o).status ≡ Err e → (begin_of s h r o).walk ≡ no_walk
   unfolding begin_of
   refused_walk r n = by (fits_of h (length s)) (leb (asked_of r).len (asked_of r).width) (is_ipv6_in_ipv4 h (asked_of r).width)
     where
       by :
           (a b c : Bool)
-          → (cond a (cond b (cond c (refused_start 10) (begun_with (first_of s h (asked_of r)) o)) (refused_start 16)) (refused_start 9)).status ≡ status.Refused n
-          → (cond a (cond b (cond c (refused_start 10) (begun_with (first_of s h (asked_of r)) o)) (refused_start 16)) (refused_start 9)).walk ≡ no_walk
+          → (cond a (cond b (cond c (refused_start refusal.Ipv6InIpv4) (begun_with (first_of s h (asked_of r)) o)) (refused_start refusal.PrefixLength)) (refused_start refusal.Handle)).status ≡ Err n
+          → (cond a (cond b (cond c (refused_start refusal.Ipv6InIpv4) (begun_with (first_of s h (asked_of r)) o)) (refused_start refusal.PrefixLength)) (refused_start refusal.Handle)).walk ≡ no_walk
       by true true true e = refl
-      by true true false e = let z : ◌≡◌ {A = ℕ} 0 1 = cc in absurd (omega arith)
+      by true true false e = cc
       by true false c e = refl
       by false b c e = refl
 

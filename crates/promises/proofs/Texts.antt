@@ -8,17 +8,15 @@ use lib.ListN.{length, get_or, take, drop, length-drop}
 use lib.Seq.{drop-drop, get_or-drop}
 use lib.Dec.{ltb}
 use borrow.Author.Tests.{le-leb, ltb-true, ltb-false}
+use Rattle.std.specs.Prelude.{Some, None, Result, Ok, Err}
+use Rattle.refusal.specs.declared.Refusal.{Refusal}
 use Rattle.text.specs.Utf8.{well_formed}
 use Rattle.metadata.specs.Metadata.{metadata_of}
-use Rattle.metadata.specs.declared.Read.TheVariants as read
 use Rattle.metadata.proofs.DecodedLaws.{database_text}
 use Rattle.entries.specs.declared.Described.{Described}
-use Rattle.entries.specs.declared.Span.TheVariants.{Absent}
 use Rattle.entries.proofs.EntryLaws.{There, language_there, description_there, language_absent, description_absent}
 use Rattle.opening.specs.Opening.{open_of}
 use Rattle.opening.specs.declared.Reader.{Reader}
-use Rattle.opening.specs.declared.Opened.{Opened}
-use Rattle.opening.specs.declared.Opened.TheVariants as opened
 use Rattle.opening.proofs.OpeningLaws.{is_open, open_fits}
 use Rattle.handle.proofs.HandleLaws.{fit}
 use Rattle.about.specs.About.{wanted_of, text_in, text_of}
@@ -29,11 +27,11 @@ use Rattle.promises.specs.Parts.{Gives, Counted, Has, MetadataText}
 module _ (s : List ℕ) (bytes : (i : ℕ) → get_or s i 0 < 256) where
   -- the metadata of an opened image was decoded from its section, which starts past the marker's 14 bytes
   pub record Section (r : Reader) : Type 0 where
-    pub fields : metadata_of (drop r.handle.meta s) ≡ read.Is r.metadata
+    pub fields : metadata_of (drop r.handle.meta s) ≡ Some r.metadata
     pub past : 14 ≤ r.handle.meta
     pub whole : r.handle.meta ≤ length s
 
-  section : (r : Reader) → open_of s ≡ opened.Is r → Section r
+  section : (r : Reader) → open_of s ≡ Ok r → Section r
   section r e =
       let p = is_open s e in
       let f = fit r.handle (length s) (open_fits s bytes e) in
@@ -60,7 +58,7 @@ module _ (s : List ℕ) (bytes : (i : ℕ) → get_or s i 0 < 256) where
       by true e = absurd (f (ltb-true i n e))
       by false e = ltb-false i n e
 
-  absent : (r : Reader) (w : Wanted) (i : ℕ) → (Counted r w i → ⊥) → wanted_of (drop r.handle.meta s) r.metadata w i ≡ Absent
+  absent : (r : Reader) (w : Wanted) (i : ℕ) → (Counted r w i → ⊥) → wanted_of (drop r.handle.meta s) r.metadata w i ≡ None
   absent r wanted.DatabaseType i n = absurd (n tt)
   absent r wanted.Language i n = language_absent _ r.metadata i (not_less i r.metadata.languages.size n)
   absent r wanted.DescriptionLanguage i n =
@@ -91,9 +89,9 @@ module _ (s : List ℕ) (bytes : (i : ℕ) → get_or s i 0 < 256) where
     unfolding text_of
     nothing n = by (open_of s) refl
       where
-        by : (x : Opened) → open_of s ≡ x → text_in s w i x ≡ (0, 0)
-        by (opened.Is r) e = simp (absent r w i (λ c. n (record { reader = r; opens = e; counted = c })))
-        by (opened.Refused k) e = refl
+        by : (x : Result Reader Refusal) → open_of s ≡ x → text_in s w i x ≡ (0, 0)
+        by (Ok r) e = simp (absent r w i (λ c. n (record { reader = r; opens = e; counted = c })))
+        by (Err why) e = refl
 
     -- A TEXT OF THE METADATA
     pub text : Gives (Has s w i) (MetadataText s w i) (text_of s w i)

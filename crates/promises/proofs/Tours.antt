@@ -7,6 +7,10 @@ use mathlib.Core.List.{List, drop}
 use native.Mathlib.Omega.{arith}
 use lib.ListN.{length}
 use lib.Dec.{eqb, leb}
+use Rattle.std.specs.Prelude.{Ok, Err}
+use Rattle.refusal.specs.Refusals.{number_of}
+use Rattle.refusal.specs.declared.Refusal.{Refusal}
+use Rattle.refusal.specs.declared.Refusal.TheVariants as refusal
 use Rattle.handle.specs.Handle.{fits_of}
 use Rattle.handle.specs.declared.Handle.{Handle}
 use Rattle.handle.proofs.HandleLaws.{Fit, fits_of_lem}
@@ -24,30 +28,29 @@ use Rattle.walk.proofs.CallLaws.{by_goes}
 use Rattle.carried.specs.Carried.{Addressed, begun}
 use Rattle.carried.proofs.InShape as carried
 use Rattle.carried.proofs.InShape.{Sound, newest_good, sound_taken, sound_opened, sound}
-use Rattle.recording.specs.declared.Recorded.{Recorded}
-use Rattle.recording.specs.declared.Recorded.TheVariants as recorded
 use Rattle.recording.specs.Recording as reply
-use Rattle.recording.specs.Recording.{whole_range, options, on_reply, reply_of, Tour, too_many_tour, toured, tour_of}
+use Rattle.recording.specs.Recording.{Recorded, whole_range, options, on_reply, reply_of, Tour, too_many_tour, toured, tour_of}
 use Rattle.maxminddb.specs.Answers.{next_verdict}
 use Rattle.order.specs.Order.{Refuses, First}
 use Rattle.order.proofs.OrderLaws.{refuses_not}
 use Rattle.promises.specs.Walks.{call_table}
 use Rattle.promises.specs.Verifying.{Networks, Then, Many}
+use Rattle.promises.proofs.Numbers.{one_number}
 use Rattle.promises.proofs.Shapes.{handed_first}
 
 -- how a walk may end, with so many more networks allowed and so much of the budget left
 pub data Ended (s : List ℕ) (h : Handle) (more b : ℕ) (w : Walk) : Recorded → Type 0 where
-  whole : Ended s h more b w recorded.All
-  met_bad_record : Then s h more b w (outcome.Failed 11) → Ended s h more b w (recorded.Refused 11)
-  met_too_deep : Then s h more b w (outcome.Failed 12) → Ended s h more b w (recorded.Refused 12)
-  too_many : Many s h (suc more) b w → Ended s h more b w (recorded.Refused 19)
-  spent : Then s h more b w outcome.Paused → Ended s h more b w (recorded.Refused 21)
+  whole : Ended s h more b w (Ok tt)
+  met_bad_record : Then s h more b w (outcome.Failed refusal.Record) → Ended s h more b w (Err refusal.Record)
+  met_too_deep : Then s h more b w (outcome.Failed refusal.TooDeep) → Ended s h more b w (Err refusal.TooDeep)
+  too_many : Many s h (suc more) b w → Ended s h more b w (Err refusal.TooManyNetworks)
+  spent : Then s h more b w outcome.Paused → Ended s h more b w (Err refusal.Budget)
 
 -- what a call of it may answer
 data Plain : Outcome → Type 0 where
   given : (n : Network) → Plain (outcome.Given n)
-  record_failed : Plain (outcome.Failed 11)
-  depth_failed : Plain (outcome.Failed 12)
+  record_failed : Plain (outcome.Failed refusal.Record)
+  depth_failed : Plain (outcome.Failed refusal.TooDeep)
   paused : Plain outcome.Paused
   end : Plain outcome.End
 
@@ -57,9 +60,9 @@ module _ (s : List ℕ) (h : Handle) where
   Kept w = Sound w × (w.options.skipempty ≡ false)
 
   -- a place hands out a network, 11 or 12: 14 comes only where empty values are skipped
-  plain_failed : (w : Walk) (k : ℕ) → w.options.skipempty ≡ false → First (drop 4 (call_table s h 0 w)) (Refuses k) → Plain (outcome.Failed k)
-  plain_failed w k e (inl p) = let f = p.1 in let q : k ≡ 12 = cc in rw q depth_failed
-  plain_failed w k e (inr (_, inl p)) = let f = p.1 in let q : k ≡ 11 = cc in rw q record_failed
+  plain_failed : (w : Walk) (k : Refusal) → w.options.skipempty ≡ false → First (drop 4 (call_table s h 0 w)) (Refuses (number_of k)) → Plain (outcome.Failed k)
+  plain_failed w k e (inl p) = let f = p.1 in let q : k ≡ refusal.TooDeep = one_number k refusal.TooDeep cc in rw q depth_failed
+  plain_failed w k e (inr (_, inl p)) = let f = p.1 in let q : k ≡ refusal.Record = one_number k refusal.Record cc in rw q record_failed
   plain_failed w k e (inr (_, inr (_, inl p))) = absurd (false≢true (sym e ∙ p.0.skipping))
   plain_failed w k e (inr (_, inr (_, inr p))) = absurd (refuses_not p.1)
 
@@ -149,7 +152,7 @@ module _ (s : List ℕ) (h : Handle) where
       where
         by :
             (a b c : Bool)
-            → (cond a (cond b (cond c (refused_start 10) (begun_with (first_of s h (asked_of r)) options)) (refused_start 16)) (refused_start 9)).walk.options.skipempty ≡ false
+            → (cond a (cond b (cond c (refused_start refusal.Ipv6InIpv4) (begun_with (first_of s h (asked_of r)) options)) (refused_start refusal.PrefixLength)) (refused_start refusal.Handle)).walk.options.skipempty ≡ false
         by true true true = refl
         by true true false = refl
         by true false c = refl
@@ -181,10 +184,10 @@ module _ (s : List ℕ) (h : Handle) where
   then_ends more b w a x f t =
       past t.networks more b w t.left t.at t.handed t.few ∙ ends_here (more - t.networks) t.left t.at a x t.answers f
 
-  many_handed : (more b : ℕ) (w : Walk) (c : ℕ) (v : Walk) → Networks s h (suc more) b w c v → (toured s h more b w).ended ≡ recorded.Refused 19
+  many_handed : (more b : ℕ) (w : Walk) (c : ℕ) (v : Walk) → Networks s h (suc more) b w c v → (toured s h more b w).ended ≡ Err refusal.TooManyNetworks
   unfolding toured
   many_handed zero b w c v n = simp n.0.1
   many_handed (suc more) b w c v n = rw n.0.1 (many_handed more (b - (next_of s h w b).taken) (next_of s h w b).walk c v n.1)
 
-  pub many_ends : (more b : ℕ) (w : Walk) → Many s h (suc more) b w → (toured s h more b w).ended ≡ recorded.Refused 19
+  pub many_ends : (more b : ℕ) (w : Walk) → Many s h (suc more) b w → (toured s h more b w).ended ≡ Err refusal.TooManyNetworks
   many_ends more b w t = many_handed more b w t.left t.at t.handed

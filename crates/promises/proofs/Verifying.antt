@@ -11,23 +11,22 @@ use lib.Seq.{get_or-take, get_or-drop}
 use lib.Dec.{leb, eqb}
 use borrow.Author.Tests.{leb-true, leb-false, eqb-true, eqb-false}
 use Rattle.number.proofs.Tests.{chosen_first}
+use Rattle.std.specs.Prelude.{Result, Ok, Err}
+use Rattle.refusal.specs.Refusals.{number_of}
+use Rattle.refusal.specs.declared.Refusal.{Refusal}
+use Rattle.refusal.specs.declared.Refusal.TheVariants as refusal
 use Rattle.handle.specs.declared.Handle.{Handle}
 use Rattle.handle.proofs.HandleLaws.{Fit, fit}
 use Rattle.section.specs.Section.{section_of}
 use Rattle.opening.specs.Opening.{open_of}
 use Rattle.opening.specs.declared.Reader.{Reader}
-use Rattle.opening.specs.declared.Opened as opened
 use Rattle.opening.proofs.OpeningLaws as opening
 use Rattle.opening.proofs.OpeningLaws.{is_refused, open_fits}
 use Rattle.marks.specs.Marks.{contains, distinct}
 use Rattle.sweep.specs.Sweep.{data_accepted, metadata_accepted}
-use Rattle.recording.specs.Recording.{tour_of}
-use Rattle.recording.specs.declared.Recorded.{Recorded}
-use Rattle.recording.specs.declared.Recorded.TheVariants as recorded
+use Rattle.recording.specs.Recording.{Recorded, tour_of}
 use Rattle.place.specs.declared.Outcome.TheVariants as outcome
-use Rattle.verify.specs.declared.Verified.{Verified}
-use Rattle.verify.specs.declared.Verified.TheVariants as verified
-use Rattle.verify.specs.Verify.{Out, out, metadata_in, words_of, separator_of, all_zero, walked, database_of, verdict_of, cleared, verify_on, verify_of}
+use Rattle.verify.specs.Verify.{Verified, Out, out, metadata_in, words_of, separator_of, all_zero, walked, database_of, verdict_of, cleared, verify_on, verify_of}
 use Rattle.maxminddb.specs.Answers.{verify_verdict}
 use Rattle.order.specs.Order.{Refuses, Table, First}
 use Rattle.order.proofs.OrderLaws.{exactly, gate, refuses_not}
@@ -57,7 +56,7 @@ byte_at : (s : List ℕ) (p i : ℕ) → i < 16 → get_or (take 16 (lists.drop 
 byte_at s p i l = get_or-take 16 (lists.drop p s) i 0 l ∙ get_or-drop p s i 0
 
 -- 24, 1 to 8 come from opening
-early : {s : List ℕ} {n : ℕ} → opening.Refuses s n → Early n
+early : {s : List ℕ} {e : Refusal} → opening.Refuses s e → Early (number_of e)
 early (opening.too_long h) = inl refl
 early (opening.no_marker_lem h f) = inr (inl (omega arith, omega arith))
 early (opening.no_metadata marker h l e) = inr (inl (omega arith, omega arith))
@@ -78,14 +77,14 @@ between : {n k : ℕ} → Refuses n ≡ Refuses k → 9 ≤ k → k ≤ 21 → (
 between {n} {k} e a b = let q : n ≡ k = cc in (omega arith, omega arith)
 
 -- an answer that accepts was not refused on the way
-refused_not : {k n : ℕ} → verified.Refused k ≡ verified.Accepted n → ⊥
-refused_not e = let z : ◌≡◌ {A = ℕ} 0 1 = cc in omega arith
+refused_not : {k : Refusal} {n : ℕ} → ◌≡◌ {A = Verified} (Err k) (Ok n) → ⊥
+refused_not e = cc
 
 module _ (s : List ℕ) (bytes : (i : ℕ) → get_or s i 0 < 256) (ws : List ℕ) (budget : ℕ) where
   abbrev rows : Table
   rows = verify_rows s ws budget
 
-  module _ (r : Reader) (e : open_of s ≡ opened.TheVariants.Is r) where
+  module _ (r : Reader) (e : open_of s ≡ Ok r) where
     abbrev h : Handle
     h = r.handle
 
@@ -98,7 +97,7 @@ module _ (s : List ℕ) (bytes : (i : ℕ) → get_or s i 0 < 256) (ws : List �
         let g : r ≡ o.reader = cc in
         n (subst P (sym g) o.holds)
 
-    data_first : First (drop 9 rows) (verify_verdict (cond (data_accepted (section_of s h) (contains (tour_of s h budget).offsets)) (verified.Accepted (distinct (tour_of s h budget).offsets)) (verified.Refused 14)))
+    data_first : First (drop 9 rows) (verify_verdict (cond (data_accepted (section_of s h) (contains (tour_of s h budget).offsets)) (Ok (distinct (tour_of s h budget).offsets)) (Err refusal.Malformed)))
     data_first =
         gate verify_verdict (data_accepted (section_of s h) (contains (tour_of s h budget).offsets)) _ _ []
         (λ t. not_of (BadData s budget) (λ f. false≢true (sym f ∙ t))) (of (BadData s budget)) refl (λ t. refl)
@@ -116,8 +115,8 @@ module _ (s : List ℕ) (bytes : (i : ℕ) → get_or s i 0 < 256) (ws : List �
         First (drop 8 rows)
         (verify_verdict
         (cond (all_zero (separator_of s h.base))
-        (cond (data_accepted (section_of s h) (contains (tour_of s h budget).offsets)) (verified.Accepted (distinct (tour_of s h budget).offsets)) (verified.Refused 14))
-        (verified.Refused 20)))
+        (cond (data_accepted (section_of s h) (contains (tour_of s h budget).offsets)) (Ok (distinct (tour_of s h budget).offsets)) (Err refusal.Malformed))
+        (Err refusal.Separator)))
     separator_first =
         gate verify_verdict (all_zero (separator_of s h.base)) _ _ (drop 9 rows)
         (λ t. not_of (BadSeparator s) (separated t)) (λ t. of (BadSeparator s) (not_separated t)) refl (λ t. data_first)
@@ -126,52 +125,46 @@ module _ (s : List ℕ) (bytes : (i : ℕ) → get_or s i 0 < 256) (ws : List �
     end = (tour_of s h budget).ended
 
     -- the walk ends as its rows say
-    fails : (n : ℕ) → WalkFails s budget n r → end ≡ recorded.Refused n
+    fails : (k : Refusal) → WalkFails s budget k r → end ≡ Err k
     unfolding tour_of
-    fails n t = then_ends s h (3 * h.nodes) budget _ (outcome.Failed n) (recorded.Refused n) refl t
+    fails k t = then_ends s h (3 * h.nodes) budget _ (outcome.Failed k) (Err k) refl t
 
-    many : TooMany s budget r → end ≡ recorded.Refused 19
+    many : TooMany s budget r → end ≡ Err refusal.TooManyNetworks
     unfolding tour_of
     many t = many_ends s h (3 * h.nodes) budget _ t
 
-    pauses : BudgetSpent s budget r → end ≡ recorded.Refused 21
+    pauses : BudgetSpent s budget r → end ≡ Err refusal.Budget
     unfolding tour_of
-    pauses t = then_ends s h (3 * h.nodes) budget _ outcome.Paused (recorded.Refused 21) refl t
+    pauses t = then_ends s h (3 * h.nodes) budget _ outcome.Paused (Err refusal.Budget) refl t
 
     -- another end than this
-    other : {k : ℕ} {x : Recorded} (P : Reader → Type 0) → (P r → end ≡ recorded.Refused k) → end ≡ x → (x ≡ recorded.Refused k → ⊥) → Opened s P → ⊥
+    other : {k : Refusal} {x : Recorded} (P : Reader → Type 0) → (P r → end ≡ Err k) → end ≡ x → (x ≡ Err k → ⊥) → Opened s P → ⊥
     other P f q n = not_of P (λ p. n (sym q ∙ f p))
 
-    differ : {j k : ℕ} → (j ≡ k → ⊥) → recorded.Refused j ≡ recorded.Refused k → ⊥
-    differ {j} {k} n e = let q : j ≡ k = cc in n q
+    not_11 : {x : Recorded} → end ≡ x → (x ≡ Err refusal.Record → ⊥) → Opened s (WalkFails s budget refusal.Record) → ⊥
+    not_11 = other (WalkFails s budget refusal.Record) (fails refusal.Record)
 
-    all_not : {k : ℕ} → recorded.All ≡ recorded.Refused k → ⊥
-    all_not e = let z : ◌≡◌ {A = ℕ} 0 1 = cc in omega arith
+    not_12 : {x : Recorded} → end ≡ x → (x ≡ Err refusal.TooDeep → ⊥) → Opened s (WalkFails s budget refusal.TooDeep) → ⊥
+    not_12 = other (WalkFails s budget refusal.TooDeep) (fails refusal.TooDeep)
 
-    not_11 : {x : Recorded} → end ≡ x → (x ≡ recorded.Refused 11 → ⊥) → Opened s (WalkFails s budget 11) → ⊥
-    not_11 = other (WalkFails s budget 11) (fails 11)
-
-    not_12 : {x : Recorded} → end ≡ x → (x ≡ recorded.Refused 12 → ⊥) → Opened s (WalkFails s budget 12) → ⊥
-    not_12 = other (WalkFails s budget 12) (fails 12)
-
-    not_19 : {x : Recorded} → end ≡ x → (x ≡ recorded.Refused 19 → ⊥) → Opened s (TooMany s budget) → ⊥
+    not_19 : {x : Recorded} → end ≡ x → (x ≡ Err refusal.TooManyNetworks → ⊥) → Opened s (TooMany s budget) → ⊥
     not_19 = other (TooMany s budget) many
 
-    not_21 : {x : Recorded} → end ≡ x → (x ≡ recorded.Refused 21 → ⊥) → Opened s (BudgetSpent s budget) → ⊥
+    not_21 : {x : Recorded} → end ≡ x → (x ≡ Err refusal.Budget → ⊥) → Opened s (BudgetSpent s budget) → ⊥
     not_21 = other (BudgetSpent s budget) pauses
 
     walk_first :
         {x : Recorded} (next : Verified) → First (drop 8 rows) (verify_verdict next) → Ended s h (3 * h.nodes) budget (begun s h) x → end ≡ x
         → First (drop 4 rows) (verify_verdict (walked x next))
-    walk_first next f whole q = inr (not_11 q all_not, inr (not_12 q all_not, inr (not_19 q all_not, inr (not_21 q all_not, f))))
-    walk_first next f (met_bad_record t) q = inl (of (WalkFails s budget 11) t, refl)
-    walk_first next f (met_too_deep t) q = inr (not_11 q (differ (λ z. omega arith)), inl (of (WalkFails s budget 12) t, refl))
+    walk_first next f whole q = inr (not_11 q (λ e. cc), inr (not_12 q (λ e. cc), inr (not_19 q (λ e. cc), inr (not_21 q (λ e. cc), f))))
+    walk_first next f (met_bad_record t) q = inl (of (WalkFails s budget refusal.Record) t, refl)
+    walk_first next f (met_too_deep t) q = inr (not_11 q (λ e. cc), inl (of (WalkFails s budget refusal.TooDeep) t, refl))
     walk_first next f (too_many t) q =
-        inr (not_11 q (differ (λ z. omega arith)), inr (not_12 q (differ (λ z. omega arith)), inl (of (TooMany s budget) t, refl)))
+        inr (not_11 q (λ e. cc), inr (not_12 q (λ e. cc), inl (of (TooMany s budget) t, refl)))
     walk_first next f (spent t) q =
         inr (
-          not_11 q (differ (λ z. omega arith)),
-          inr (not_12 q (differ (λ z. omega arith)), inr (not_19 q (differ (λ z. omega arith)), inl (of (BudgetSpent s budget) t, refl))),
+          not_11 q (λ e. cc),
+          inr (not_12 q (λ e. cc), inr (not_19 q (λ e. cc), inl (of (BudgetSpent s budget) t, refl))),
         )
 
     fits : Fit h (length s)
@@ -203,7 +196,7 @@ module _ (s : List ℕ) (bytes : (i : ℕ) → get_or s i 0 < 256) (ws : List �
     late (inr (_, inr (_, inr (_, inr (_, inr (_, inr (_, inr (_, inr (_, inl p))))))))) = between p.1 (omega arith) (omega arith)
     late (inr (_, inr (_, inr (_, inr (_, inr (_, inr (_, inr (_, inr (_, inr p))))))))) = absurd (refuses_not p.1)
 
-    counted : (n : ℕ) → verdict_of s r budget ≡ verified.Accepted n → n ≡ distinct (tour_of s h budget).offsets
+    counted : (n : ℕ) → verdict_of s r budget ≡ Ok n → n ≡ distinct (tour_of s h budget).offsets
     unfolding verdict_of database_of
     counted n q =
         let a = chosen_first (metadata_accepted (metadata_in s h)) refused_not q in
@@ -215,20 +208,20 @@ module _ (s : List ℕ) (bytes : (i : ℕ) → get_or s i 0 < 256) (ws : List �
             (x : Recorded)
             → walked x
             (cond (all_zero (separator_of s h.base))
-            (cond (data_accepted (section_of s h) (contains (tour_of s h budget).offsets)) (verified.Accepted (distinct (tour_of s h budget).offsets)) (verified.Refused 14))
-            (verified.Refused 20))
-            ≡ verified.Accepted n
+            (cond (data_accepted (section_of s h) (contains (tour_of s h budget).offsets)) (Ok (distinct (tour_of s h budget).offsets)) (Err refusal.Malformed))
+            (Err refusal.Separator))
+            ≡ Ok n
             → n ≡ distinct (tour_of s h budget).offsets
-        by recorded.All f =
+        by (Ok passed) f =
             let a = chosen_first (all_zero (separator_of s h.base)) refused_not f in
             let b = chosen_first (data_accepted (section_of s h) (contains (tour_of s h budget).offsets)) refused_not a.1 in
             let c = b.1 in
             cc
-        by (recorded.Refused k) f = absurd (refused_not f)
+        by (Err k) f = absurd (refused_not f)
 
     -- an image that opens
     abbrev given : Bool → Out
-    given t = cond t (out (verdict_of s r budget) (cleared (words_of s h) ws)) (out (verified.Refused 22) ws)
+    given t = cond t (out (verdict_of s r budget) (cleared (words_of s h) ws)) (out (Err refusal.Scratch) ws)
 
     scratch_first : First rows (verify_verdict (given (leb (words_of s h) (length ws))).answer)
     scratch_first =
@@ -236,21 +229,21 @@ module _ (s : List ℕ) (bytes : (i : ℕ) → get_or s i 0 < 256) (ws : List �
         (λ t. not_of (ScratchTooShort s ws) (λ l. let k = leb-true (words_of s h) (length ws) t in omega arith))
         (λ t. of (ScratchTooShort s ws) (leb-false (words_of s h) (length ws) t)) refl (λ t. verdict_first)
 
-    offsets_given : (t : Bool) (n : ℕ) → (given t).answer ≡ verified.Accepted n → Opened s (λ r. n ≡ distinct (tour_of s r.handle budget).offsets)
+    offsets_given : (t : Bool) (n : ℕ) → (given t).answer ≡ Ok n → Opened s (λ r. n ≡ distinct (tour_of s r.handle budget).offsets)
     offsets_given true n q = of _ (counted n q)
     offsets_given false n q = absurd (refused_not q)
 
-    untouched_given : (t : Bool) (n : ℕ) → (given t).answer ≡ verified.Refused n → Early n → (given t).scratch ≡ ws
+    untouched_given : (t : Bool) (e : Refusal) → (given t).answer ≡ Err e → Early (number_of e) → (given t).scratch ≡ ws
     untouched_given true n q x =
         let l = late (subst (First (drop 1 rows)) (ap verify_verdict q) verdict_first) in
         absurd (not_early l.0 l.1 x)
     untouched_given false n q x = refl
 
     zeroed_given :
-        (t : Bool) → leb (words_of s h) (length ws) ≡ t → ((n : ℕ) → (given t).answer ≡ verified.Refused n → Early n → ⊥)
+        (t : Bool) → leb (words_of s h) (length ws) ≡ t → ((e : Refusal) → (given t).answer ≡ Err e → Early (number_of e) → ⊥)
         → Opened s (λ r. (words_of s r.handle ≤ length ws) × ((given t).scratch ≡ cleared (words_of s r.handle) ws))
     zeroed_given true q n = of _ (leb-true (words_of s h) (length ws) q, refl)
-    zeroed_given false q n = absurd (n 22 refl (inr (inr refl)))
+    zeroed_given false q n = absurd (n refusal.Scratch refl (inr (inr refl)))
 
   -- VERIFY
   pub verify : Verifies s ws budget (verify_of s ws budget)
@@ -265,16 +258,16 @@ module _ (s : List ℕ) (bytes : (i : ℕ) → get_or s i 0 < 256) (ws : List �
         zeroed = zeroed (open_of s) refl;
       }
     where
-      offsets : (x : opened.Opened) → open_of s ≡ x → (n : ℕ) → (verify_on s ws budget x).answer ≡ verified.Accepted n → Opened s (λ r. n ≡ distinct (tour_of s r.handle budget).offsets)
-      offsets (opened.TheVariants.Is r) e = offsets_given r e (leb (words_of s r.handle) (length ws))
-      offsets (opened.TheVariants.Refused k) e = λ n q. absurd (refused_not q)
+      offsets : (x : Result Reader Refusal) → open_of s ≡ x → (n : ℕ) → (verify_on s ws budget x).answer ≡ Ok n → Opened s (λ r. n ≡ distinct (tour_of s r.handle budget).offsets)
+      offsets (Ok r) e = offsets_given r e (leb (words_of s r.handle) (length ws))
+      offsets (Err k) e = λ n q. absurd (refused_not q)
 
-      untouched : (x : opened.Opened) → open_of s ≡ x → (n : ℕ) → (verify_on s ws budget x).answer ≡ verified.Refused n → Early n → (verify_on s ws budget x).scratch ≡ ws
-      untouched (opened.TheVariants.Is r) e = untouched_given r e (leb (words_of s r.handle) (length ws))
-      untouched (opened.TheVariants.Refused k) e = λ n q x. refl
+      untouched : (x : Result Reader Refusal) → open_of s ≡ x → (n : Refusal) → (verify_on s ws budget x).answer ≡ Err n → Early (number_of n) → (verify_on s ws budget x).scratch ≡ ws
+      untouched (Ok r) e = untouched_given r e (leb (words_of s r.handle) (length ws))
+      untouched (Err k) e = λ n q x. refl
 
       zeroed :
-          (x : opened.Opened) → open_of s ≡ x → ((n : ℕ) → (verify_on s ws budget x).answer ≡ verified.Refused n → Early n → ⊥)
+          (x : Result Reader Refusal) → open_of s ≡ x → ((n : Refusal) → (verify_on s ws budget x).answer ≡ Err n → Early (number_of n) → ⊥)
           → Opened s (λ r. (words_of s r.handle ≤ length ws) × ((verify_on s ws budget x).scratch ≡ cleared (words_of s r.handle) ws))
-      zeroed (opened.TheVariants.Is r) e = zeroed_given r e (leb (words_of s r.handle) (length ws)) refl
-      zeroed (opened.TheVariants.Refused k) e = λ n. absurd (n k refl (early (is_refused s e)))
+      zeroed (Ok r) e = zeroed_given r e (leb (words_of s r.handle) (length ws)) refl
+      zeroed (Err k) e = λ n. absurd (n k refl (early (is_refused s e)))

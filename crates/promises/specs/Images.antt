@@ -1,9 +1,8 @@
 -- What is asked of an image s: opening, its age, the words that verification needs.
-use Rattle.std.specs.Prelude.{ℕ, ◌+◌, ◌-◌, ◌*◌, ◌/◌, ◌^◌, ◌<◌, ◌≡◌, ◌⊎◌, List, [], ◌∷◌, ◌++◌, length}
+use Rattle.std.specs.Prelude.{ℕ, ◌+◌, ◌-◌, ◌*◌, ◌/◌, ◌^◌, ◌<◌, ◌≡◌, ◌⊎◌, List, [], ◌∷◌, ◌++◌, length, Some, None}
 use Rattle.tree.proofs.MarkerLaws.{Stands}
 use Rattle.metadata.specs.Metadata.{metadata_of}
 use Rattle.metadata.specs.declared.Metadata.{Metadata}
-use Rattle.metadata.specs.declared.Read.TheVariants as read
 use Rattle.opening.specs.Opening.{metadata_section}
 use Rattle.opening.proofs.OpeningLaws.{LastMarker}
 use Rattle.order.specs.Order.{Table, Refuses}
@@ -20,14 +19,14 @@ NoMarker s = (i : ℕ) → Stands s i → ⊥
 pub record Undecodable (s : List ℕ) : Type 0 where
   pub marker : ℕ
   pub last : LastMarker s marker
-  pub wrong : metadata_of (metadata_section s marker) ≡ read.Wrong
+  pub wrong : metadata_of (metadata_section s marker) ≡ None
 
 -- a property of the marker's start and of the fields that what lies past it is decoded into
 pub record Fields (s : List ℕ) (P : ℕ → Metadata → Type 0) : Type 0 where
   pub marker : ℕ
   pub metadata : Metadata
   pub last : LastMarker s marker
-  pub decoded : metadata_of (metadata_section s marker) ≡ read.Is metadata
+  pub decoded : metadata_of (metadata_section s marker) ≡ Some metadata
   pub holds : P marker metadata
 
 -- 3: format major version not 2

@@ -1,5 +1,5 @@
 -- Entries that answer by a part of the image: a text, bytes, and the texts of the metadata. They give no number.
-use Rattle.std.specs.Prelude.{ℕ, ◌+◌, ◌≤◌, ◌<◌, ◌≡◌, Bool, true, cond, ◌↔◌, List, length, take, drop}
+use Rattle.std.specs.Prelude.{ℕ, ◌+◌, ◌≤◌, ◌<◌, ◌≡◌, Bool, true, cond, ◌↔◌, List, length, take, drop, Some, Ok}
 use Rattle.text.specs.Utf8.{well_formed}
 use Rattle.stored.specs.Stored.{resolved_at}
 use Rattle.value.specs.Parts.{payload_of}
@@ -10,8 +10,7 @@ use Rattle.section.specs.Section.{section_of}
 use Rattle.path.specs.declared.Cursor.{Cursor}
 use Rattle.opening.specs.Opening.{open_of}
 use Rattle.opening.specs.declared.Reader.{Reader}
-use Rattle.opening.specs.declared.Opened.TheVariants as opened
-use Rattle.entries.specs.declared.Span.TheVariants.{At}
+use Rattle.entries.specs.Entries.{part}
 use Rattle.about.specs.About.{wanted_of}
 use Rattle.about.specs.declared.Wanted.{Wanted}
 use Rattle.about.specs.declared.Wanted.TheVariants as wanted
@@ -30,7 +29,7 @@ sized bytes n = cond bytes (value.Bytes n) (value.Text n)
 -- reading gives a text, or bytes
 pub record Reads (s : List ℕ) (h : Handle) (c : Cursor) (bytes : Bool) : Type 0 where
   pub size : ℕ
-  pub is : read_of s h c ≡ sized bytes size
+  pub is : read_of s h c ≡ Ok (sized bytes size)
 
 -- its payload in the image
 abbrev pub Payload : (s : List ℕ) (h : Handle) (c : Cursor) (bytes : Bool) → Reads s h c bytes → ℕ × ℕ → Type 0
@@ -46,14 +45,14 @@ Counted r wanted.Description i = i < r.metadata.description.size
 -- the image opens, and its metadata has the text
 pub record Has (s : List ℕ) (w : Wanted) (i : ℕ) : Type 0 where
   pub reader : Reader
-  pub opens : open_of s ≡ opened.Is reader
+  pub opens : open_of s ≡ Ok reader
   pub counted : Counted reader w i
 
 -- where the text lies in the metadata section, which starts past the marker: the part is whole in the image, and UTF-8
 pub record MetadataText (s : List ℕ) (w : Wanted) (i : ℕ) (it : Has s w i) (x : ℕ × ℕ) : Type 0 where
   pub from : ℕ
   pub size : ℕ
-  pub lies : wanted_of (drop it.reader.handle.meta s) it.reader.metadata w i ≡ At from size
+  pub lies : wanted_of (drop it.reader.handle.meta s) it.reader.metadata w i ≡ Some (part from size)
   pub is : x ≡ (it.reader.handle.meta + from, size)
   pub inside : it.reader.handle.meta + from + size ≤ length s
   pub utf8 : well_formed (take size (drop (it.reader.handle.meta + from) s)) ≡ true

@@ -1,18 +1,13 @@
 -- A value that a cursor leads to: reading it, and steps into it.
-use Rattle.std.specs.Prelude.{ℕ, zero, suc, ◌-◌, ◌*◌, ◌≤◌, ◌<◌, ◌≡◌, Bool, true, cond, ◌⊎◌, List, [], ◌∷◌, length, take, drop}
+use Rattle.std.specs.Prelude.{ℕ, zero, suc, ◌-◌, ◌*◌, ◌≤◌, ◌<◌, ◌≡◌, Bool, true, cond, ◌⊎◌, List, [], ◌∷◌, length, take, drop, Some}
 use Rattle.control.specs.declared.Kind.{Kind}
 use Rattle.control.specs.declared.Kind.TheVariants as kind
 use Rattle.charge.specs.Charge.{most_values, most_payload, room_left, since_entry, paid}
 use Rattle.charge.specs.declared.Charge.{Charge}
-use Rattle.charge.specs.declared.Charged.TheVariants.{Within}
-use Rattle.key.specs.Keys.{name_at}
-use Rattle.key.specs.declared.Name.TheVariants as name
-use Rattle.skip.specs.Skip.{many, skipped_at}
-use Rattle.skip.specs.declared.Skipped.TheVariants.{Past}
-use Rattle.path.specs.Steps.{inside_at}
-use Rattle.path.specs.declared.Inside.TheVariants as inside
-use Rattle.stored.specs.Stored.{resolved_at}
-use Rattle.stored.specs.declared.Layout.TheVariants as layout
+use Rattle.key.specs.Keys.{name, name_at}
+use Rattle.skip.specs.Skip.{past, many, skipped_at}
+use Rattle.path.specs.Steps.{inside, inside_at}
+use Rattle.stored.specs.Stored.{layout, resolved_at}
 use Rattle.text.specs.Utf8.{well_formed}
 use Rattle.handle.specs.declared.Handle.{Handle}
 use Rattle.section.specs.Section.{data_length, section_of}
@@ -51,7 +46,7 @@ pub record Readable (s : List ℕ) (place : ℕ) (c : Charge) : Type 0 where
   pub size : ℕ
   pub payload : ℕ
   pub next : ℕ
-  pub lies : resolved_at s place ≡ layout.At kind size payload next
+  pub lies : resolved_at s place ≡ Some (layout kind size payload next)
   pub allowed : Allowed s c kind size payload
 
 -- a value or a path: 9, 15, 14; what 14 means is the entry's own
@@ -75,7 +70,7 @@ pub record Key : Type 0 where
 
 -- it is a text, behind at most one pointer, and within the limits
 abbrev pub IsKey : List ℕ → ℕ → Charge → Key → Type 0
-IsKey s place c k = (name_at s place ≡ name.Is k.from k.size k.value) × (paid c k.size ≡ Within k.charge)
+IsKey s place c k = (name_at s place ≡ Some (name k.from k.size k.value)) × (paid c k.size ≡ Some k.charge)
 
 abbrev pub bytes_of : List ℕ → Key → List ℕ
 bytes_of s k = take k.size (drop k.from s)
@@ -86,7 +81,7 @@ Lands s key k = (bytes_of s k ≡ key) × (k.value < length s)
 
 -- another key, and its value can be passed over to where the rest is
 abbrev pub Passes : List ℕ → List ℕ → Key → (ℕ → Charge → Type 0) → Type 0
-Passes s key k Rest = (bytes_of s k ≡ key → ⊥) × ((next : ℕ) × ((d : Charge) × ((skipped_at s k.value k.charge ≡ Past next d) × Rest next d)))
+Passes s key k Rest = (bytes_of s k ≡ key → ⊥) × ((next : ℕ) × ((d : Charge) × ((skipped_at s k.value k.charge ≡ Some (past next d)) × Rest next d)))
 
 -- n pairs from a place on can be searched: up to the first equal key, or to the end, where it is absent
 abbrev pub Searchable : List ℕ → List ℕ → ℕ → ℕ → Charge → Type 0
@@ -98,14 +93,14 @@ pub record KeyStepped (s : List ℕ) (c : Cursor) (key : List ℕ) : Type 0 wher
   pub first : ℕ
   pub pairs : ℕ
   pub charge : Charge
-  pub map : inside_at s c 7 ≡ inside.Of first pairs charge
+  pub map : inside_at s c 7 ≡ Some (inside first pairs charge)
   pub search : Searchable s key pairs first charge
 
 -- the elements before one can be passed over, and it begins inside the section
 pub record Reaches (s : List ℕ) (first before : ℕ) (c : Charge) : Type 0 where
   pub place : ℕ
   pub charge : Charge
-  pub past : many (skipped_at s) before (Past first c) ≡ Past place charge
+  pub passed : many (skipped_at s) before (Some (past first c)) ≡ Some (past place charge)
   pub inside : place < length s
 
 -- an array lies there and may be entered, and the element can be reached, unless the index is past the last
@@ -113,7 +108,7 @@ pub record IndexStepped (s : List ℕ) (c : Cursor) (index : ℕ) (backward : Bo
   pub first : ℕ
   pub elements : ℕ
   pub charge : Charge
-  pub array : inside_at s c 11 ≡ inside.Of first elements charge
+  pub array : inside_at s c 11 ≡ Some (inside first elements charge)
   pub reach : index < elements → Reaches s first (cond backward (elements - 1 - index) index) charge
 
 -- steps: 14 where there is no way into the value

@@ -1,10 +1,12 @@
 -- Verification of an image s, with the words ws lent and a budget of places.
-use Rattle.std.specs.Prelude.{ℕ, zero, suc, ◌+◌, ◌-◌, ◌*◌, ◌≤◌, ◌<◌, ◌≡◌, false, ◌⊎◌, List, [], ◌∷◌, ◌++◌, length, get_or}
+use Rattle.std.specs.Prelude.{ℕ, zero, suc, ◌+◌, ◌-◌, ◌*◌, ◌≤◌, ◌<◌, ◌≡◌, false, ◌⊎◌, List, [], ◌∷◌, ◌++◌, length, get_or, Ok, Err}
+use Rattle.refusal.specs.Refusals.{number_of}
+use Rattle.refusal.specs.declared.Refusal.{Refusal}
+use Rattle.refusal.specs.declared.Refusal.TheVariants as refusal
 use Rattle.handle.specs.declared.Handle.{Handle}
 use Rattle.section.specs.Section.{section_of}
 use Rattle.opening.specs.Opening.{open_of}
 use Rattle.opening.specs.declared.Reader.{Reader}
-use Rattle.opening.specs.declared.Opened.TheVariants as opened
 use Rattle.marks.specs.Marks.{contains, distinct}
 use Rattle.sweep.specs.Sweep.{data_accepted, metadata_accepted}
 use Rattle.recording.specs.Recording.{whole_range, options, tour_of}
@@ -14,7 +16,6 @@ use Rattle.place.specs.declared.Outcome.TheVariants as outcome
 use Rattle.walk.specs.declared.Walk.{Walk}
 use Rattle.walk.specs.Starts.{begin_of}
 use Rattle.walk.specs.Calls.{next_of}
-use Rattle.verify.specs.declared.Verified.TheVariants as verified
 use Rattle.verify.specs.Verify.{Out, metadata_in, words_of, cleared}
 use Rattle.maxminddb.specs.Answers.{verify_verdict}
 use Rattle.order.specs.Order.{Table, Refuses, Exactly}
@@ -23,7 +24,7 @@ use Rattle.promises.specs.Images.{open_table}
 -- a property of what opening gives
 pub record Opened (s : List ℕ) (P : Reader → Type 0) : Type 0 where
   pub reader : Reader
-  pub opens : open_of s ≡ opened.Is reader
+  pub opens : open_of s ≡ Ok reader
   pub holds : P reader
 
 -- 22: the scratch is too short; it needs two words for every 64 bytes, begun ones too, of the longer of data section and metadata
@@ -67,8 +68,8 @@ pub record Many (s : List ℕ) (h : Handle) (networks b : ℕ) (w : Walk) : Type
   pub handed : Networks s h networks b w left at
 
 -- 11, 12, as the walk comes to them
-abbrev pub WalkFails : List ℕ → ℕ → ℕ → Reader → Type 0
-WalkFails s budget number r = Then s r.handle (3 * r.handle.nodes) budget (begun s r.handle) (outcome.Failed number)
+abbrev pub WalkFails : List ℕ → ℕ → Refusal → Reader → Type 0
+WalkFails s budget e r = Then s r.handle (3 * r.handle.nodes) budget (begun s r.handle) (outcome.Failed e)
 
 -- 19: more than three times node count networks
 abbrev pub TooMany : List ℕ → ℕ → Reader → Type 0
@@ -93,8 +94,8 @@ verify_rows s ws budget =
     ∷ (Refuses 14, Opened s (BadMetadata s))
     ∷ (Refuses 17, Opened s NoType)
     ∷ (Refuses 18, Opened s NoDescription)
-    ∷ (Refuses 11, Opened s (WalkFails s budget 11))
-    ∷ (Refuses 12, Opened s (WalkFails s budget 12))
+    ∷ (Refuses 11, Opened s (WalkFails s budget refusal.Record))
+    ∷ (Refuses 12, Opened s (WalkFails s budget refusal.TooDeep))
     ∷ (Refuses 19, Opened s (TooMany s budget))
     ∷ (Refuses 21, Opened s (BudgetSpent s budget))
     ∷ (Refuses 20, Opened s (BadSeparator s))
@@ -112,8 +113,8 @@ Early n = (n ≡ 24) ⊎ (((1 ≤ n) × (n ≤ 8)) ⊎ (n ≡ 22))
 -- the answer, and the scratch: untouched after 24, 1 to 8 and 22; after any other answer the words it needs are 0 and the rest is untouched
 pub record Verifies (s ws : List ℕ) (budget : ℕ) (x : Out) : Type 0 where
   pub verdict : Exactly (verify_table s ws budget) (verify_verdict x.answer)
-  pub offsets : (n : ℕ) → x.answer ≡ verified.Accepted n → Opened s (λ r. n ≡ distinct (tour_of s r.handle budget).offsets)
-  pub untouched : (n : ℕ) → x.answer ≡ verified.Refused n → Early n → x.scratch ≡ ws
+  pub offsets : (n : ℕ) → x.answer ≡ Ok n → Opened s (λ r. n ≡ distinct (tour_of s r.handle budget).offsets)
+  pub untouched : (e : Refusal) → x.answer ≡ Err e → Early (number_of e) → x.scratch ≡ ws
   pub zeroed :
-      ((n : ℕ) → x.answer ≡ verified.Refused n → Early n → ⊥)
+      ((e : Refusal) → x.answer ≡ Err e → Early (number_of e) → ⊥)
       → Opened s (λ r. (words_of s r.handle ≤ length ws) × (x.scratch ≡ cleared (words_of s r.handle) ws))

@@ -1,10 +1,11 @@
 -- A walk: its start, and its call with a budget.
-use Rattle.std.specs.Prelude.{ℕ, zero, suc, ◌+◌, ◌^◌, ◌≤◌, ◌<◌, ◌≡◌, true, ◌⊎◌, List, [], ◌∷◌, length}
+use Rattle.std.specs.Prelude.{ℕ, zero, suc, ◌+◌, ◌^◌, ◌≤◌, ◌<◌, ◌≡◌, true, ◌⊎◌, List, [], ◌∷◌, length, Err}
 use Rattle.number.specs.Keys.{number_of}
+use Rattle.refusal.specs.declared.Refusal.{Refusal}
+use Rattle.refusal.specs.declared.Refusal.TheVariants as refusal
 use Rattle.handle.specs.declared.Handle.{Handle}
 use Rattle.handle.proofs.HandleLaws.{Fit}
 use Rattle.value.specs.Empty.{empty_at}
-use Rattle.value.specs.declared.Emptiness.TheVariants.{Malformed}
 use Rattle.place.specs.declared.Network.{Network}
 use Rattle.place.specs.declared.Outcome.{Outcome}
 use Rattle.place.specs.declared.Outcome.TheVariants as outcome
@@ -12,7 +13,6 @@ use Rattle.place.specs.declared.Turn.{Turn}
 use Rattle.place.specs.declared.Turn.TheVariants as turn
 use Rattle.walk.specs.declared.Range.{Range}
 use Rattle.walk.specs.declared.Range.TheVariants.{Ipv4, Ipv6}
-use Rattle.walk.specs.declared.Status.TheVariants as status
 use Rattle.walk.specs.declared.Started.{Started}
 use Rattle.walk.specs.declared.Walk.{Walk}
 use Rattle.walk.specs.declared.Called.{Called}
@@ -43,7 +43,7 @@ start_table s h r =
 -- a refused start gives a walk of width 32 with no waiting place and no option
 pub record Start (s : List ℕ) (h : Handle) (r : Range) (x : Started) : Type 0 where
   pub verdict : Exactly (start_table s h r) (start_verdict x.status)
-  pub walk : (n : ℕ) → x.status ≡ status.Refused n → x.walk ≡ no_walk
+  pub walk : (e : Refusal) → x.status ≡ Err e → x.walk ≡ no_walk
 
 -- 13, the walk is out of shape: count above 129; width neither 32 nor 128; the newest length above the width; width 32 and one of the
 -- newest key's upper 96 bits set; the newest internal, shorter than the width, and count 129
@@ -79,7 +79,7 @@ pub record BadValue (s : List ℕ) (h : Handle) (w : Walk) : Type 0 where
   pub offset : ℕ
   pub inside : offset < length (data_section s h)
   pub is : (newest w).value ≡ h.nodes + 16 + offset
-  pub malformed : empty_at (data_section s h) offset ≡ Malformed
+  pub malformed : empty_at (data_section s h) offset ≡ Err refusal.Malformed
 
 -- a walk's call, where it ends, with so many places of its budget left: 9; none waiting, End; out of shape, 13; none left, Paused; else
 -- what the newest place comes to
