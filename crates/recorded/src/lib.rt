@@ -4,7 +4,8 @@
 
 pub mod tally;
 
-ghost use Rattle.std.specs.Prelude.{◌≡◌, ◌≤◌, ◌<◌, IfOk, IfSome, length};
+ghost use Rattle.std.specs.Prelude.{◌≡◌, ◌+◌, ◌*◌, ◌≤◌, ◌==◌, cond, IfOk, IfSome, length};
+ghost use Rattle.refusal.specs.Refusals.{number_of};
 
 use refusal::Refusal;
 use std::io;
@@ -38,7 +39,9 @@ pub struct Entry<'a> {
 }
 
 impl Answer {
-    pub fn new(kind: impl Into<u8>, high: u64, low: u64) -> Answer {
+    pub fn new(kind: impl Into<u8>, high: u64, low: u64) -> Answer
+        ensures { (result.high ≡ high) × (result.low ≡ low) }
+    {
         Answer {
             kind: kind.into(),
             high,
@@ -46,12 +49,20 @@ impl Answer {
         }
     }
 
-    pub fn refused(why: Refusal) -> Answer {
-        Answer::new(REFUSED, 0, u64::from(why.number()))
+    pub fn refused(why: Refusal) -> Answer
+        ensures { result ≡ record { kind = 0; high = 0; low = number_of why } }
+    {
+        Answer {
+            kind: REFUSED,
+            high: 0,
+            low: u64::from(why.number()),
+        }
     }
 
     // The slot that it is counted in: refused ones are counted by their number.
-    pub fn slot(&self) -> usize {
+    pub fn slot(&self) -> usize
+        ensures { result ≡ cond (self.now.kind == 0) self.now.low self.now.kind }
+    {
         if self.kind == REFUSED {
             self.low as usize
         } else {
@@ -67,7 +78,8 @@ pub fn zeros() -> [u8; 1310720]
     [0; 1310720]
 }
 
-// Reads until the room is full or the input ends, and answers how many bytes came.
+// Reads until the room is full or the input ends, and answers how many bytes came. The library has it only where the bytes
+// must be all there, or for a room that grows.
 pub fn read_full(input: &mut impl Read, room: &mut [u8]) -> io::Result<usize>
     ensures { IfOk result (λ n. n ≤ length room.new) }
 {
@@ -99,7 +111,7 @@ pub fn number_at(bytes: &[u8], at: usize, size: usize) -> u64 {
 
 // The first entry of a table, and the rest of the table after it.
 pub fn entry_at(table: &[u8]) -> Option<(Entry<'_>, &[u8])>
-    ensures { IfSome result (λ r. length r.1.now < length table.now) }
+    ensures { IfSome result (λ r. 26 + length r.0.asked.now + length r.0.content.now + length r.1.now ≡ length table.now) }
 {
     let (header, rest) = table.split_first_chunk::<HEADER>()?;
     let (asked, rest) = rest.split_at_checked(number(&header[4..6]) as usize)?;
@@ -132,6 +144,7 @@ where
     A: Fn(&[u8], &Entry<'_>) -> Row,
     requires reach { R.IsAlwaysCallable reach }
     requires row { A.IsAlwaysCallable row }
+    ensures { IfOk result (λ t. 26 * t.all.rows ≤ length table.now) }
 {
     let mut tally = Tally::default();
     let mut image: &[u8] = &[];

@@ -1,4 +1,7 @@
 // What was counted, and how it is written.
+ghost use Rattle.std.specs.Prelude.{◌≡◌, ◌+◌, ◌%◌, ◌^◌, cond, Some};
+ghost use Rattle.std.specs.Option.{option_or};
+
 use crate::Entry;
 use refusal::Refusal;
 use std::fmt;
@@ -15,7 +18,10 @@ pub struct Row {
 }
 
 impl Row {
-    pub fn new(entry: &Entry<'_>, is_equal: bool) -> Row {
+    pub fn new(entry: &Entry<'_>, is_equal: bool) -> Row
+        ensures question { result.question ≡ entry.now.question }
+        ensures equal { result.is_equal ≡ is_equal }
+    {
         Row {
             question: entry.question,
             kind: entry.answer.slot(),
@@ -41,7 +47,10 @@ pub struct Tally {
 }
 
 impl Count {
-    fn add(&mut self, is_equal: bool) {
+    fn add(&mut self, is_equal: bool)
+        ensures rows { self.new.rows ≡ (self.old.rows + 1) % 2 ^ 64 }
+        ensures equal { self.new.equal ≡ cond is_equal ((self.old.equal + 1) % 2 ^ 64) self.old.equal }
+    {
         self.rows = self.rows.wrapping_add(1);
         if is_equal {
             self.equal = self.equal.wrapping_add(1);
@@ -65,7 +74,11 @@ pub struct Refused<'a> {
 }
 
 impl Tally {
-    pub fn count(&mut self, row: Row) {
+    pub fn count(&mut self, row: Row)
+        ensures rows { self.new.all.rows ≡ (self.old.all.rows + 1) % 2 ^ 64 }
+        ensures equal { self.new.all.equal ≡ cond row.is_equal ((self.old.all.equal + 1) % 2 ^ 64) self.old.all.equal }
+        ensures first { self.new.first ≡ cond row.is_equal self.old.first (option_or self.old.first (Some self.new.all.rows)) }
+    {
         self.all.add(row.is_equal);
         if !row.is_equal {
             self.first = self.first.or(Some(self.all.rows));
