@@ -10,7 +10,7 @@ pub const MAXIMUM_DATA_STRUCTURE_BYTES: usize = 2097152;
 
 // Values and bytes of text charged so far. No values: no map or array has been entered yet.
 #[repr(C)]
-#[derive(Clone, Copy)]
+#[derive(Clone, Copy, Default)]
 pub struct Charge {
     pub values: usize,
     pub payload: usize,

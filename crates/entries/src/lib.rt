@@ -21,11 +21,7 @@ fn last_text(s: &[u8], from: usize, passed: usize, more: usize) -> Option<Part>
     requires { 0 < more }
     ensures { result ≡ last_of s.now from (passed + more) }
 {
-    let nothing = Charge {
-        values: 0,
-        payload: 0,
-    };
-    let before = texts(s, passed, from, nothing)?;
+    let before = texts(s, passed, from, Charge::default())?;
     let last = texts(s, more, before.next, before.charge)?;
     Some(Part {
         from: last.place,

@@ -1,14 +1,19 @@
 -- Laws of values: of numbers, and of values one after the other.
 use Prim.Native.Nat.{ℕ, zero, suc, ◌+◌, ◌-◌, ◌≤◌, ◌<◌}
 use mathlib.Core.Path.{◌≡◌, refl, sym, ◌∙◌}
+use mathlib.Core.List.{List}
+use mir.Syntax.{w8}
+use mir.Val.{Fits}
+use lib.ListN.{length, get_or}
 use native.Mathlib.Nat.{zero-add, suc-add}
 use native.Mathlib.Omega.{arith}
 use native.Mathlib.Numerals.{add-one}
 use Rattle.std.specs.Prelude.{Option, Some, None}
 use Rattle.charge.specs.declared.Charge.{Charge}
 use Rattle.control.specs.declared.Kind.{Kind}
-use Rattle.stored.specs.Stored.{up_to, body_of, Lies}
-use Rattle.stored.proofs.StoredLaws.{lies_up_to}
+use Rattle.stored.specs.Stored.{up_to, body_of, resolved_at, Lies}
+use Rattle.stored.specs.declared.Layout.{Layout}
+use Rattle.stored.proofs.StoredLaws.{resolved_laid, lies_up_to}
 use Rattle.fields.specs.Fields.{got, many}
 use Rattle.fields.specs.declared.Got.{Got}
 
@@ -17,6 +22,10 @@ pub number_lies : {len : ℕ} {k : Kind} {n q : ℕ} (most : ℕ) → Lies len k
 number_lies {len} {k} {n} {q} most l e h =
     let t : (n ≤ most) × (q + n ≤ len) = lies_up_to most l e in
     (omega arith, t.1)
+
+-- what is read lies in the section
+pub resolved_lies : (s : List ℕ) → ((i : ℕ) → Fits w8 (get_or s i 0)) → (at : ℕ) (l : Layout) → resolved_at s at ≡ Some l → Lies (length s) l.kind l.size l.payload
+resolved_lies s bytes at l e = (resolved_laid s (λ i. (bytes i).fits) at e).0.lies
 
 module _ (f : ℕ → Charge → Option Got) where
   many_one : (m : ℕ) (x : Got) → many f (suc m) (Some x) ≡ many f m (f x.next x.charge)

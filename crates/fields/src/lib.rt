@@ -38,7 +38,7 @@ fn decode_string(s: &[u8], text: Name, c: Charge) -> Option<Got>
     })
 }
 
-#[tactic(auto, unfolding(crate::specs::Fields::text_at))]
+#[tactic(auto, using(key::proofs::KeyLaws::name_inside), unfolding(crate::specs::Fields::text_at))]
 pub fn deserialize_str(s: &[u8], at: usize, c: Charge) -> Option<Got>
     ensures { result ≡ text_at s.now at c }
 {
@@ -123,7 +123,7 @@ fn value_of(s: &[u8], at: usize, l: Layout, c: Charge) -> Option<Got>
 }
 
 // The value at a place, of the kind wanted, behind at most one pointer.
-#[tactic(auto, unfolding(crate::specs::Fields::value_at))]
+#[tactic(auto, using(crate::proofs::FieldLaws::resolved_lies), unfolding(crate::specs::Fields::value_at))]
 pub fn decode_direct(s: &[u8], want: Kind, at: usize, c: Charge) -> Option<Got>
     ensures { result ≡ value_at s.now want at c }
 {

@@ -3,6 +3,8 @@ use Prim.Native.Nat.{ℕ, ◌+◌, ◌≤◌, ◌<◌}
 use mathlib.Core.Path.{◌≡◌, refl, ap}
 use mathlib.Core.Bool.{true}
 use mathlib.Core.List.{List}
+use mir.Syntax.{w8}
+use mir.Val.{Fits}
 use lib.ListN.{length, get_or}
 use Rattle.std.specs.Prelude.{Option, Some, None, Decides, bytes_eq}
 use Rattle.std.proofs.lemmas.Option.{none-some, cond_some}
@@ -51,3 +53,6 @@ name_on_lem s bytes at None {y} g h = absurd (none-some y h)
 pub name_within : (s : List ℕ) → ((i : ℕ) → get_or s i 0 < 256) → (at : ℕ) {x : Name} → name_at s at ≡ Some x → Named (length s) at x.from x.size x.next
 unfolding name_at
 name_within s bytes at h = name_on_lem s bytes at (resolved_at s at) refl h
+
+pub name_inside : (s : List ℕ) → ((i : ℕ) → Fits w8 (get_or s i 0)) → (at : ℕ) (x : Name) → name_at s at ≡ Some x → x.from + x.size ≤ length s
+name_inside s bytes at x e = (name_within s (λ i. (bytes i).fits) at {x = x} e).inside

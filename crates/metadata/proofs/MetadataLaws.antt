@@ -5,17 +5,22 @@ use mathlib.Core.Bool.{Bool, true, false, ◌&&◌, and-false}
 use mathlib.Core.List.{List}
 use native.Mathlib.Omega.{arith}
 use native.Mathlib.Numerals.{add-one}
-use lib.ListN.{set, take, drop}
+use mir.Syntax.{w8}
+use mir.Val.{Fits}
+use lib.ListN.{get_or, set, take, drop}
 use lib.Dec.{eqb}
 use borrow.Author.Tests.{eqb-true, eqb-false}
 use Rattle.std.specs.Prelude.{cond, Option, Some, None, is_some}
 use Rattle.std.proofs.lemmas.Option.{none-some, same_Some}
 use Rattle.charge.specs.Charge.{paid}
 use Rattle.charge.specs.declared.Charge.{Charge}
+use Rattle.stored.specs.Stored.{resolved_at}
+use Rattle.stored.specs.declared.Layout.{Layout}
 use Rattle.key.specs.Keys.{name_at}
 use Rattle.key.specs.declared.Name.{Name}
 use Rattle.fields.specs.Fields.{got, value_at}
 use Rattle.fields.specs.declared.Got.{Got}
+use Rattle.fields.proofs.FieldLaws.{resolved_lies}
 use Rattle.skip.specs.Skip.{skipped_at}
 use Rattle.skip.specs.declared.Past.{Past}
 use Rattle.metadata.specs.Names.{field_of, want_of}
@@ -24,6 +29,10 @@ use Rattle.metadata.specs.declared.Key.{Key}
 use Rattle.metadata.specs.declared.Pair.{Pair}
 use Rattle.metadata.specs.declared.Pair.TheVariants.{Known, Other}
 use Rattle.metadata.specs.declared.Field.{Field}
+
+-- what is read is not too large to be counted twice
+pub resolved_small : (s : List ℕ) → ((i : ℕ) → Fits w8 (get_or s i 0)) → (at : ℕ) (l : Layout) → resolved_at s at ≡ Some l → l.size ≤ 16843036
+resolved_small s bytes at l e = (resolved_lies s bytes at l e).small
 
 module _ (fs : List (Option Field)) where
   seen_not : (n i : ℕ) → i < n → field_at fs i ≡ None → all_seen fs n ≡ false
@@ -129,3 +138,6 @@ module _ (s : List ℕ) where
   pub pair_reads : (at : ℕ) (c : Charge) {i : ℕ} {y : Got} → pair_at s at c ≡ Some (Known i y) → FieldRead i y.value y.place
   unfolding pair_at
   pair_reads at c e = pair_on_lem at c (key_at s at c) refl e
+
+  pub pair_small : (at : ℕ) (c : Charge) (i : ℕ) (x : Got) → pair_at s at c ≡ Some (Known i x) → i < 9
+  pair_small at c i x e = (pair_reads at c e).small

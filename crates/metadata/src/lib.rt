@@ -108,7 +108,7 @@ fn field_of(key: &[u8]) -> Option<usize>
     }
 }
 
-#[tactic(auto, unfolding(crate::specs::Metadata::key_at))]
+#[tactic(auto, using(key::proofs::KeyLaws::name_inside), unfolding(crate::specs::Metadata::key_at))]
 fn deserialize_identifier(s: &[u8], at: usize, c: Charge) -> Option<Key>
     ensures { result ≡ key_at s.now at c }
 {
@@ -164,7 +164,7 @@ fn whole(fields: [Option<Field>; 9]) -> Option<Metadata>
     })
 }
 
-#[tactic(auto, using(crate::proofs::MetadataLaws::gather_known, crate::proofs::MetadataLaws::gather_twice, crate::proofs::MetadataLaws::gather_other, crate::proofs::MetadataLaws::gather_stop, crate::proofs::MetadataLaws::gather_none, crate::proofs::MetadataLaws::pair_reads))]
+#[tactic(auto, using(crate::proofs::MetadataLaws::gather_known, crate::proofs::MetadataLaws::gather_twice, crate::proofs::MetadataLaws::gather_other, crate::proofs::MetadataLaws::gather_stop, crate::proofs::MetadataLaws::gather_none, crate::proofs::MetadataLaws::pair_small))]
 fn visit_map(s: &[u8], pairs: usize, first: usize, c: Charge) -> Option<Metadata>
     ensures { result ≡ gather (pair_at s.now) pairs first c none_seen }
 {
@@ -195,7 +195,7 @@ fn visit_map(s: &[u8], pairs: usize, first: usize, c: Charge) -> Option<Metadata
 }
 
 // The fields of a metadata section.
-#[tactic(auto, unfolding(crate::specs::Metadata::metadata_of))]
+#[tactic(auto, using(crate::proofs::MetadataLaws::resolved_small), unfolding(crate::specs::Metadata::metadata_of))]
 pub fn deserialize(s: &[u8]) -> Option<Metadata>
     ensures { result ≡ metadata_of s.now }
 {
@@ -203,10 +203,6 @@ pub fn deserialize(s: &[u8]) -> Option<Metadata>
     if l.kind != Kind::Map {
         return None;
     }
-    let nothing = Charge {
-        values: 0,
-        payload: 0,
-    };
-    let charge = reserve_values(nothing, l.size * 2)?;
+    let charge = reserve_values(Charge::default(), l.size * 2)?;
     visit_map(s, l.size, l.payload, charge)
 }

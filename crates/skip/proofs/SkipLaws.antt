@@ -2,13 +2,23 @@
 use Prim.Native.Nat.{ℕ, zero, suc, ◌+◌, ◌-◌, ◌≤◌, ◌<◌}
 use mathlib.Core.Path.{◌≡◌, refl, ◌∙◌}
 use mathlib.Core.List.{List}
+use mir.Syntax.{w8}
+use mir.Val.{Fits}
+use lib.ListN.{get_or}
 use native.Mathlib.Omega.{arith}
 use native.Mathlib.Numerals.{add-one, sub-one}
 use Rattle.std.specs.Prelude.{Option, Some, None}
 use Rattle.charge.specs.declared.Charge.{Charge}
+use Rattle.stored.specs.Stored.{stored_at}
+use Rattle.stored.specs.declared.Layout.{Layout}
+use Rattle.stored.proofs.StoredLaws.{stored_laid}
 use Rattle.skip.specs.Skip.{entry_at, past, many, after, skip_at}
 use Rattle.skip.specs.declared.Entry.TheVariants.{Leaf, Nest}
 use Rattle.skip.specs.declared.Past.{Past}
+
+-- what is entered is not too large to be counted twice
+pub stored_small : (s : List ℕ) → ((i : ℕ) → Fits w8 (get_or s i 0)) → (at : ℕ) (l : Layout) → stored_at s at ≡ Some l → l.size ≤ 16843036
+stored_small s bytes at l e = (stored_laid s (λ i. (bytes i).fits) at e).0.lies.small
 
 -- values one after the other, of which i were passed
 module _ (f : ℕ → Charge → Option Past) where

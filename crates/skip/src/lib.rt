@@ -54,7 +54,7 @@ pub fn enter(kind: Kind, size: usize, next: usize, c: Charge) -> Option<Entry>
     }
 }
 
-#[tactic(auto, unfolding(crate::specs::Skip::entry_at))]
+#[tactic(auto, using(crate::proofs::SkipLaws::stored_small), unfolding(crate::specs::Skip::entry_at))]
 fn entry_at(s: &[u8], at: usize, c: Charge) -> Option<Entry>
     ensures { result ≡ entry_at s.now at c }
 {
