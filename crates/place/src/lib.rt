@@ -66,6 +66,14 @@ pub enum Turn {
     Opened,
 }
 
+// What a whole walk goes by: the numbers of its image, its options, and the width of its addresses.
+#[derive(Clone, Copy)]
+pub struct Terms {
+    pub handle: Handle,
+    pub options: Options,
+    pub width: u64,
+}
+
 pub fn is_ipv4_in_ipv6(key: Key) -> bool
     ensures { result ≡ is_ipv4_in_ipv6 key }
 {
@@ -78,34 +86,10 @@ pub fn has_ipv4_subtree(h: Handle) -> bool
     h.version == 6 && h.start4 < h.nodes
 }
 
-#[tactic(auto, unfolding(crate::specs::Kinds::is_alias))]
-fn is_alias(h: Handle, width: u64, p: Place) -> bool
-    ensures { result ≡ is_alias h width p }
-{
-    h.start4 != 0 && p.value == h.start4 && width == 128 && !is_ipv4_in_ipv6(p.key)
-}
-
 fn in_ipv4_subtree(h: Handle, p: Place) -> bool
     ensures { result ≡ in_ipv4_subtree h p }
 {
     is_ipv4_in_ipv6(p.key) && has_ipv4_subtree(h) && h.depth4 <= p.len
-}
-
-#[tactic(auto, unfolding(crate::specs::Kinds::kind_of))]
-fn network_kind(h: Handle, width: u64, p: Place) -> NetworkKind
-    ensures { result ≡ kind_of h width p }
-{
-    if width == 32 {
-        if h.version == 6 && !has_ipv4_subtree(h) {
-            NetworkKind::V6
-        } else {
-            NetworkKind::V4
-        }
-    } else if in_ipv4_subtree(h, p) {
-        NetworkKind::V4InV6Subtree
-    } else {
-        NetworkKind::V6
-    }
 }
 
 pub fn frame_out(count: u64, width: u64) -> bool
@@ -151,18 +135,6 @@ pub fn child(s: &[u8], size: u64, width: u64, p: Place, bit: u64) -> Place
     }
 }
 
-fn network_of(h: Handle, width: u64, p: Place, offset: Option<u64>) -> Network
-    requires { (p.len ≤ width) × (width ≤ 128) }
-    ensures { result ≡ network_of h width p offset }
-{
-    Network {
-        key: masked(p.key, width, p.len),
-        len: p.len,
-        kind: network_kind(h, width, p),
-        offset,
-    }
-}
-
 fn unless_empty(empty: Result<bool, Refusal>, network: Network) -> Turn
     ensures { result ≡ unless_empty empty network }
 {
@@ -173,36 +145,76 @@ fn unless_empty(empty: Result<bool, Refusal>, network: Network) -> Turn
     }
 }
 
-fn is_skipped(h: Handle, options: Options, width: u64, p: Place) -> bool
-    ensures { result ≡ is_skipped h options width p }
-{
-    !options.aliased && is_alias(h, width, p)
-}
+impl Terms {
+    #[tactic(auto, unfolding(crate::specs::Kinds::is_alias))]
+    fn is_alias(&self, p: Place) -> bool
+        ensures { result ≡ is_alias self.now.handle self.now.width p }
+    {
+        let h = self.handle;
+        h.start4 != 0 && p.value == h.start4 && self.width == 128 && !is_ipv4_in_ipv6(p.key)
+    }
 
-// What taking a place comes to, over the data section.
-#[tactic(auto, unfolding(crate::specs::Turns::turn_of))]
-pub fn visit(section: &[u8], h: Handle, options: Options, width: u64, p: Place) -> Turn
-    requires { (p.len ≤ width) × (width ≤ 128) }
-    ensures { result ≡ turn_of section.now h options width p }
-{
-    if is_skipped(h, options, width, p) {
-        return Turn::Passed;
+    fn is_skipped(&self, p: Place) -> bool
+        ensures { result ≡ is_skipped self.now.handle self.now.options self.now.width p }
+    {
+        !self.options.aliased && self.is_alias(p)
     }
-    if p.value < h.nodes {
-        if p.len < width {
-            return Turn::Opened;
+
+    #[tactic(auto, unfolding(crate::specs::Kinds::kind_of))]
+    fn network_kind(&self, p: Place) -> NetworkKind
+        ensures { result ≡ kind_of self.now.handle self.now.width p }
+    {
+        if self.width == 32 {
+            if self.handle.version == 6 && !has_ipv4_subtree(self.handle) {
+                NetworkKind::V6
+            } else {
+                NetworkKind::V4
+            }
+        } else if in_ipv4_subtree(self.handle, p) {
+            NetworkKind::V4InV6Subtree
+        } else {
+            NetworkKind::V6
         }
-        return Turn::Out(Outcome::Failed(Refusal::TooDeep));
     }
-    let Some(found) = answer(h.nodes, section.len() as u64, p.value, p.len) else {
-        return Turn::Out(Outcome::Failed(Refusal::Record));
-    };
-    match found.offset {
-        Some(offset) if options.skipempty => unless_empty(
-            is_empty_value_at(section, offset as usize),
-            network_of(h, width, p, Some(offset)),
-        ),
-        None if !options.dataless => Turn::Passed,
-        offset => Turn::Out(Outcome::Given(network_of(h, width, p, offset))),
+
+    fn network_of(&self, p: Place, offset: Option<u64>) -> Network
+        requires { (p.len ≤ self.now.width) × (self.now.width ≤ 128) }
+        ensures { result ≡ network_of self.now.handle self.now.width p offset }
+    {
+        Network {
+            key: masked(p.key, self.width, p.len),
+            len: p.len,
+            kind: self.network_kind(p),
+            offset,
+        }
+    }
+
+    // What taking a place comes to, over the data section.
+    #[tactic(auto, unfolding(crate::specs::Turns::turn_of))]
+    pub fn visit(&self, section: &[u8], p: Place) -> Turn
+        requires { (p.len ≤ self.now.width) × (self.now.width ≤ 128) }
+        ensures { result ≡ turn_of section.now self.now.handle self.now.options self.now.width p }
+    {
+        if self.is_skipped(p) {
+            return Turn::Passed;
+        }
+        let nodes = self.handle.nodes;
+        if p.value < nodes {
+            if p.len < self.width {
+                return Turn::Opened;
+            }
+            return Turn::Out(Outcome::Failed(Refusal::TooDeep));
+        }
+        let Some(found) = answer(nodes, section.len() as u64, p.value, p.len) else {
+            return Turn::Out(Outcome::Failed(Refusal::Record));
+        };
+        match found.offset {
+            Some(offset) if self.options.skipempty => unless_empty(
+                is_empty_value_at(section, offset as usize),
+                self.network_of(p, Some(offset)),
+            ),
+            None if !self.options.dataless => Turn::Passed,
+            offset => Turn::Out(Outcome::Given(self.network_of(p, offset))),
+        }
     }
 }

@@ -5,7 +5,7 @@ ghost use Rattle.walk.specs.Calls.{next_of};
 use crate::start::no_place;
 use crate::{Called, Walk};
 use handle::{Handle, fits};
-use place::{Outcome, Turn, child, frame_out, newest_out, visit};
+use place::{Outcome, Terms, Turn, child, frame_out, newest_out};
 use refusal::Refusal;
 
 pub fn next(image: &[u8], h: Handle, walk: Walk, budget: u64) -> Called
@@ -22,8 +22,11 @@ pub fn next(image: &[u8], h: Handle, walk: Walk, budget: u64) -> Called
     let marker = (h.meta - 14) as usize;
     let section = &image[base..marker];
     let none = no_place();
-    let options = walk.options;
-    let width = walk.width;
+    let terms = Terms {
+        handle: h,
+        options: walk.options,
+        width: walk.width,
+    };
     let mut w = walk;
     let mut n: u64 = 0;
     // No `for` over the budget: with none left a walk still ends, or is out of shape, before it pauses.
@@ -36,7 +39,7 @@ pub fn next(image: &[u8], h: Handle, walk: Walk, budget: u64) -> Called
                 walk: w,
             };
         }
-        if frame_out(count, width) {
+        if frame_out(count, terms.width) {
             return Called {
                 answer: Outcome::Refused(Refusal::OutOfShape),
                 taken: n,
@@ -45,7 +48,7 @@ pub fn next(image: &[u8], h: Handle, walk: Walk, budget: u64) -> Called
         }
         let i = (count - 1) as usize;
         let p = w.places[i];
-        if newest_out(h.nodes, count, width, p) {
+        if newest_out(h.nodes, count, terms.width, p) {
             return Called {
                 answer: Outcome::Refused(Refusal::OutOfShape),
                 taken: n,
@@ -62,7 +65,7 @@ pub fn next(image: &[u8], h: Handle, walk: Walk, budget: u64) -> Called
         n += 1;
         w.places[i] = none;
         w.count = count - 1;
-        match visit(section, h, options, width, p) {
+        match terms.visit(section, p) {
             Turn::Out(answer) => {
                 return Called {
                     answer,
@@ -71,8 +74,8 @@ pub fn next(image: &[u8], h: Handle, walk: Walk, budget: u64) -> Called
                 };
             }
             Turn::Opened => {
-                let right = child(image, h.size, width, p, 1);
-                let left = child(image, h.size, width, p, 0);
+                let right = child(image, h.size, terms.width, p, 1);
+                let left = child(image, h.size, terms.width, p, 0);
                 let j = count as usize;
                 w.places[i] = right;
                 w.places[j] = left;

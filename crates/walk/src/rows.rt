@@ -7,9 +7,7 @@ ghost use Rattle.walk.specs.Rows.{kind_number, offset_word, put, poured, rows_of
 use crate::Walk;
 use crate::start::no_place;
 use handle::{Handle, fits};
-use place::{
-    Network, NetworkKind, Options, Outcome, Place, Turn, child, frame_out, newest_out, visit,
-};
+use place::{Network, NetworkKind, Outcome, Place, Terms, Turn, child, frame_out, newest_out};
 use refusal::Refusal;
 
 // The words of a row: the key's halves, the length, the kind, and the offset.
@@ -68,14 +66,14 @@ fn is_plain_node(nodes: u64, start4: u64, width: u64, value: u64, len: u64) -> b
 }
 
 // What taking a place comes to; one without data that is not asked for needs no call.
-fn taking(section: &[u8], h: Handle, options: Options, width: u64, p: Place) -> Turn
-    requires { (p.len ≤ width) × (width ≤ 128) }
-    ensures { result ≡ turn_of section.now h options width p }
+fn taking(section: &[u8], terms: &Terms, p: Place) -> Turn
+    requires { (p.len ≤ terms.now.width) × (terms.now.width ≤ 128) }
+    ensures { result ≡ turn_of section.now terms.now.handle terms.now.options terms.now.width p }
 {
-    if p.value == h.nodes && !options.dataless {
+    if p.value == terms.handle.nodes && !terms.options.dataless {
         return Turn::Passed;
     }
-    visit(section, h, options, width, p)
+    terms.visit(section, p)
 }
 
 pub fn next_rows(image: &[u8], h: Handle, walk: Walk, out: &mut [u64], budget: u64) -> Filled
@@ -93,8 +91,11 @@ pub fn next_rows(image: &[u8], h: Handle, walk: Walk, out: &mut [u64], budget: u
     let marker = (h.meta - 14) as usize;
     let section = &image[base..marker];
     let none = no_place();
-    let options = walk.options;
-    let width = walk.width;
+    let terms = Terms {
+        handle: h,
+        options: walk.options,
+        width: walk.width,
+    };
     let space = out.len() / ROW_WORDS;
     let mut w = walk;
     let mut n: u64 = 0;
@@ -110,7 +111,7 @@ pub fn next_rows(image: &[u8], h: Handle, walk: Walk, out: &mut [u64], budget: u
                 walk: w,
             };
         }
-        if frame_out(first, width) {
+        if frame_out(first, terms.width) {
             return Filled {
                 rows: row as u64,
                 taken: n,
@@ -124,7 +125,7 @@ pub fn next_rows(image: &[u8], h: Handle, walk: Walk, out: &mut [u64], budget: u
         loop {
             let count = w.count;
             let i = (count - 1) as usize;
-            if newest_out(h.nodes, count, width, p) {
+            if newest_out(h.nodes, count, terms.width, p) {
                 w.places[i] = p;
                 return Filled {
                     rows: row as u64,
@@ -143,15 +144,15 @@ pub fn next_rows(image: &[u8], h: Handle, walk: Walk, out: &mut [u64], budget: u
                 };
             }
             n += 1;
-            if is_plain_node(h.nodes, h.start4, width, p.value, p.len) {
-                let right = child(image, h.size, width, p, 1);
-                let left = child(image, h.size, width, p, 0);
+            if is_plain_node(h.nodes, h.start4, terms.width, p.value, p.len) {
+                let right = child(image, h.size, terms.width, p, 1);
+                let left = child(image, h.size, terms.width, p, 0);
                 w.places[i] = right;
                 w.count = count + 1;
                 p = left;
                 continue;
             }
-            match taking(section, h, options, width, p) {
+            match taking(section, &terms, p) {
                 Turn::Out(answer) => {
                     w.places[i] = none;
                     w.count = count - 1;
@@ -196,8 +197,8 @@ pub fn next_rows(image: &[u8], h: Handle, walk: Walk, out: &mut [u64], budget: u
                     }
                 }
                 Turn::Opened => {
-                    let right = child(image, h.size, width, p, 1);
-                    let left = child(image, h.size, width, p, 0);
+                    let right = child(image, h.size, terms.width, p, 1);
+                    let left = child(image, h.size, terms.width, p, 0);
                     w.places[i] = right;
                     w.count = count + 1;
                     p = left;

@@ -3,7 +3,7 @@ use mathlib.Core.Path.{◌≡◌, refl, sym}
 use mathlib.Core.Bool.{Bool, true, false, cond}
 use mathlib.Core.List.{List}
 use native.Mathlib.Omega.{arith}
-use borrow.Author.Tests.{le-ltb, le-leb, not-true}
+use borrow.Author.Tests.{le-ltb, le-leb}
 use Rattle.handle.specs.declared.Handle.{Handle}
 use Rattle.tree.specs.Lookup.{answer_of}
 use Rattle.place.specs.declared.Options.{Options}
@@ -24,5 +24,5 @@ module _ (d : List ℕ) (h : Handle) (o : Options) (width : ℕ) (p : Place) whe
       by true = refl
       by false = refl
 
-pub returns-then-not-options : goal.returns-then-not-options
-returns-then-not-options c = sym (passes-empty _ _ _ _ _ c.if-p-h.true (not-true _ c.if-not-options.true))
+pub returns-then-not-terms : goal.returns-then-not-terms
+returns-then-not-terms c = sym (passes-empty _ _ _ _ _ c.if-p-terms.true c.if-not-terms.true)
