@@ -1,10 +1,10 @@
 // Stepping into a value: into a map by key, into an array by index.
 #![tactic(auto)]
 
-ghost use Rattle.std.specs.Prelude.{◌≡◌, ◌≤◌, Some};
+ghost use Rattle.std.specs.Prelude.{◌≡◌, Some};
 ghost use Rattle.control.specs.Control.{type_number};
 ghost use Rattle.skip.specs.Skip.{past, many, skipped_at};
-ghost use Rattle.path.specs.Steps.{landed, children_of, inside_of, inside_at, past_value, pair_at, find_from, element_from, key_step, index_step};
+ghost use Rattle.path.specs.Steps.{landed, inside_at, past_value, pair_at, find_from, element_from, key_step, index_step};
 
 use charge::{Charge, count_payload, reserve_values};
 use control::Kind;
@@ -47,29 +47,7 @@ fn land(s: &[u8], c: Cursor) -> Result<Option<Cursor>, Refusal>
     }
 }
 
-fn children(kind: Kind, size: usize) -> usize
-    requires { size ≤ 16843036 }
-    ensures { result ≡ children_of kind size }
-{
-    match kind {
-        Kind::Map => size * 2,
-        _ => size,
-    }
-}
-
-// The children are charged whatever comes of the step, also where the first one is asked for.
-fn enter(kind: Kind, size: usize, first: usize, c: Charge) -> Option<Inside>
-    requires { size ≤ 16843036 }
-    ensures { result ≡ inside_of kind size first c }
-{
-    let charge = reserve_values(c, children(kind, size))?;
-    Some(Inside {
-        first,
-        size,
-        charge,
-    })
-}
-
+// The children, two for each pair of a map, are charged whatever comes of the step, also where the first one is asked for.
 #[tactic(auto, using(crate::proofs::PathLaws::entered_small), unfolding(crate::specs::Steps::inside_at))]
 fn consume_container_header(s: &[u8], c: Cursor, wanted: Kind) -> Option<Inside>
     ensures { result ≡ inside_at s.now c (type_number wanted) }
@@ -78,7 +56,16 @@ fn consume_container_header(s: &[u8], c: Cursor, wanted: Kind) -> Option<Inside>
     if l.kind != wanted {
         return None;
     }
-    enter(l.kind, l.size, l.payload, c.charge)
+    let children = match l.kind {
+        Kind::Map => l.size * 2,
+        _ => l.size,
+    };
+    let charge = reserve_values(c.charge, children)?;
+    Some(Inside {
+        first: l.payload,
+        size: l.size,
+        charge,
+    })
 }
 
 fn past_value(s: &[u8], place: usize, charge: Charge) -> Option<Pair>

@@ -3,7 +3,7 @@
 
 ghost use Rattle.std.specs.Prelude.{◌≡◌, true, ◌+◌, length};
 ghost use Rattle.handle.specs.Handle.{fits_of};
-ghost use Rattle.section.specs.Section.{section_of, barred_of};
+ghost use Rattle.section.specs.Section.{section_of, barred_of, section_at};
 
 use handle::{Handle, fits};
 use refusal::Refusal;
@@ -32,4 +32,13 @@ pub fn gate(h: Handle, n: usize, place: usize) -> Result<(), Refusal>
         return Err(Refusal::Offset);
     }
     Ok(())
+}
+
+// The data section, where a place in it may be looked at.
+#[tactic(auto, using(crate::proofs::SectionLaws::free))]
+pub fn section_at<'a>(image: &'a [u8], h: Handle, place: usize) -> Result<&'a [u8], Refusal>
+    ensures { result ≡ section_at image.entry h place }
+{
+    gate(h, image.len(), place)?;
+    Ok(data_section(image, h))
 }
