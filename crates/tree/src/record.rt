@@ -3,14 +3,15 @@ ghost use Rattle.std.specs.Prelude.{◌≡◌, ◌+◌, ◌*◌, ◌-◌, ◌^�
 ghost use Rattle.number.specs.Bytes.{be_at};
 ghost use Rattle.tree.specs.Record.{record_at, Readable};
 
-use number::wide;
-
 // The four bytes from o on as one number.
 fn word(s: &[u8], o: usize) -> u64
     requires { o + 4 ≤ length s.now }
     ensures { (result ≡ be_at s.now o 4) × (result < 2 ^ 32) }
 {
-    wide(s[o]) * 16777216 + wide(s[o + 1]) * 65536 + wide(s[o + 2]) * 256 + wide(s[o + 3])
+    u64::from(s[o]) * 16777216
+        + u64::from(s[o + 1]) * 65536
+        + u64::from(s[o + 2]) * 256
+        + u64::from(s[o + 3])
 }
 
 // A node's first four bytes for bit 0, its last four for bit 1: they hold the whole record at each size. The bit's part is
