@@ -1,5 +1,5 @@
 -- The graphs of whole sections: `verify_data_section`, and the first value of the metadata.
-use Rattle.std.specs.Prelude.{ℕ, zero, suc, ◌+◌, ◌*◌, List, Option, Some, None, Bool, true, false, cond, length}
+use Rattle.std.specs.Prelude.{ℕ, zero, suc, ◌+◌, ◌*◌, List, Option, Some, None, is_some, Bool, cond, length}
 use Rattle.graph.specs.Graph.{Marks, Res, res, Walk, skipped, verify_at}
 use Rattle.graph.specs.Sets.{Set, Sets, none, on_sets}
 use Rattle.graph.specs.declared.Skipped.{Skipped}
@@ -30,8 +30,7 @@ abbrev pub metadata_at : {S : Type 0} → Marks S → List ℕ → S → Res S
 metadata_at m s x = verify_at m s 0 (allowance s) x
 
 abbrev pub accepts : Option Skipped → Bool
-accepts (Some p) = true
-accepts None = false
+accepts r = is_some r
 
 -- before anything is verified: the places that the tree recorded
 abbrev pub start : Set → Sets

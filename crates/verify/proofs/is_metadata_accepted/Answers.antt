@@ -1,4 +1,4 @@
-use mathlib.Core.Path.{sym, ap, ◌∙◌}
+use mathlib.Core.Path.{ap, ◌∙◌}
 use Prim.Native.Nat.{ℕ}
 use mathlib.Core.List.{List}
 use Rattle.graph.specs.Graph.{Res}
@@ -6,24 +6,8 @@ use Rattle.sweep.specs.Sweep.{accepts}
 use Rattle.verify.proofs.VerifyLaws.{metadata_zeros}
 use Rattle.verify.proofs.is_metadata_accepted.Goals as goal
 
-pub returns-in-To : goal.returns-in-To
-returns-in-To c =
-    let graph = c.verify_metadata_graph.ensures in
-    record {
-      value =
-          sym (ap accepts c.in-To.is)
-          ∙ ap (λ (k : Res (List ℕ)). accepts k.answer) graph
-          ∙ metadata_zeros _ _ _ c.requires.metadata_in_bounds.0 c.requires.bits_value;
-      bits_after = ap (λ (k : Res (List ℕ)). k.sets) graph;
-    }
-
-pub returns-in-Refused : goal.returns-in-Refused
-returns-in-Refused c =
-    let graph = c.verify_metadata_graph.ensures in
-    record {
-      value =
-          sym (ap accepts c.in-Refused.is)
-          ∙ ap (λ (k : Res (List ℕ)). accepts k.answer) graph
-          ∙ metadata_zeros _ _ _ c.requires.metadata_in_bounds.0 c.requires.bits_value;
-      bits_after = ap (λ (k : Res (List ℕ)). k.sets) graph;
-    }
+pub returns-clause-value : goal.returns-clause-value
+returns-clause-value c =
+    c.is_some.ensures
+    ∙ ap (λ (k : Res (List ℕ)). accepts k.answer) c.verify_metadata_graph.ensures
+    ∙ metadata_zeros _ _ _ c.requires.metadata_in_bounds.0 c.requires.bits_value

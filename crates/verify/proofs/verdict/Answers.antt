@@ -7,7 +7,7 @@ use Rattle.sweep.specs.Sweep.{metadata_accepted}
 use Rattle.verify.specs.Verify.{words_of, verdict_of, metadata_words, database_words_of, verdict_words_of}
 use Prim.Native.Nat.{ℕ}
 use mathlib.Core.List.{List}
-use Rattle.verify.proofs.VerifyLaws.{words_metadata, zeros_length, zeros_self, all_cleared, metadata_whole}
+use Rattle.verify.proofs.VerifyLaws.{words_metadata, zeros_length, all_cleared, metadata_whole}
 use Rattle.verify.proofs.verdict.Goals as goal
 
 pub slice_bounds-is_metadata_accepted-count : goal.slice_bounds-is_metadata_accepted-count
@@ -16,17 +16,13 @@ slice_bounds-is_metadata_accepted-count c = (fit _ _ c.requires.image_value).who
 pub slice_bounds-is_metadata_accepted-start : goal.slice_bounds-is_metadata_accepted-start
 slice_bounds-is_metadata_accepted-start c = (fit _ _ c.requires.image_value).whole
 
-pub is_metadata_accepted-requires : goal.is_metadata_accepted-requires
-is_metadata_accepted-requires c =
+pub is_metadata_accepted-requires-clause-metadata_in_bounds : goal.is_metadata_accepted-requires-clause-metadata_in_bounds
+is_metadata_accepted-requires-clause-metadata_in_bounds c =
     let a = c.args in
-    let words = words_of a.image.now a.reader.handle in
     let f = fit _ _ c.requires.image_value in
-    let long = zeros_length a.bits.now words c.requires.bits_value in
+    let long = zeros_length a.bits.now (words_of a.image.now a.reader.handle) c.requires.bits_value in
     rw (metadata_whole a.image.now a.reader.handle.meta)
-    record {
-      bits_value = zeros_self a.bits.now words c.requires.bits_value;
-      metadata_in_bounds = (omega (arith, words_metadata a.image.now a.reader.handle, long), simp length-drop (omega (arith, f.short)));
-    }
+    (omega (arith, words_metadata a.image.now a.reader.handle, long), simp length-drop (omega (arith, f.short)))
 
 pub returns-then-not-is_metadata_accepted : goal.returns-then-not-is_metadata_accepted
 unfolding verdict_of verdict_words_of
@@ -57,16 +53,6 @@ returns-then-m-eq0-2 c =
     let type = le-leb 1 a.reader.metadata.database.size (omega (arith, c.if-m-eq0.false)) in
     let description = lt-leb 1 a.reader.metadata.description.size (omega (arith, c.if-m-eq0-2.true)) in
     record { value = simp (seen, type, description); bits_after = simp (seen, type, description) words }
-
-pub verify_database-requires : goal.verify_database-requires
-verify_database-requires c =
-    let a = c.args in
-    let words = words_of a.image.now a.reader.handle in
-    let long = zeros_length a.bits.now words c.requires.bits_value in
-    record {
-      image_value = c.requires.image_value;
-      bits_value = all_cleared words c.is_metadata_accepted.new.bits _ (c.is_metadata_accepted.auto.bits ∙ long) c.clear.ensures;
-    }
 
 pub returns : goal.returns
 unfolding verdict_of verdict_words_of

@@ -1,28 +1,19 @@
 use mathlib.Core.Path.{sym, ◌∙◌}
 use native.Mathlib.Omega.{arith}
+use Rattle.std.proofs.lemmas.Result.{err_from_is_err_and}
 use Rattle.handle.proofs.HandleLaws.{fit}
 use Rattle.section.proofs.SectionLaws.{section_length}
-use Rattle.verify.specs.Verify.{words_of}
-use Rattle.verify.proofs.VerifyLaws.{words_section, words_small, zeros_length, recorded_length, words_walked, words_separator, words_swept, database_walked, database_separator, database_malformed, database_accepted}
+use Rattle.verify.proofs.VerifyLaws.{words_section, words_small, recorded_length, words_walked, words_separator, words_swept, database_walked, database_separator, database_malformed, database_accepted}
 use Rattle.verify.proofs.verify_database.Goals as goal
 
-pub record_networks-requires : goal.record_networks-requires
-record_networks-requires c =
+pub returns-in_err-record_networks : goal.returns-in_err-record_networks
+returns-in_err-record_networks c =
     let a = c.args in
-    let long = zeros_length a.bits.now (words_of a.image.now a.h) c.requires.bits_value in
+    let p = err_from_is_err_and c.from_residual.result c.from_residual.ensures.1 in
+    rw (p.1, p.2)
     record {
-      image_value = c.requires.image_value;
-      h_in_bounds = omega (arith, words_section a.image.now a.h, long);
-    }
-
-pub returns-in-Refused : goal.returns-in-Refused
-returns-in-Refused c =
-    let a = c.args in
-    let zeros = c.requires.bits_value in
-    let walked = c.record_networks.ensures in
-    record {
-      value = database_walked a.image.now a.h a.budget _ _ _ zeros walked _ c.in-Refused.is;
-      bits_after = words_walked a.image.now a.h a.budget _ _ _ zeros walked _ c.in-Refused.is;
+      value = database_walked a.image.now a.h a.budget _ _ _ c.requires.bits_value c.in_err-record_networks.ensures;
+      bits_after = words_walked a.image.now a.h a.budget _ _ _ c.requires.bits_value c.in_err-record_networks.ensures;
     }
 
 pub is_separated-requires : goal.is_separated-requires
@@ -31,12 +22,11 @@ is_separated-requires c = let f = fit _ _ c.requires.image_value in (omega (arit
 pub returns-then-not-is_separated : goal.returns-then-not-is_separated
 returns-then-not-is_separated c =
     let a = c.args in
-    let zeros = c.requires.bits_value in
-    let walked = c.record_networks.ensures in
+    let walked = c.in_ok-record_networks.ensures in
     let separated = sym c.is_separated.ensures ∙ c.if-not-is_separated.true in
     record {
-      value = database_separator a.image.now a.h a.budget _ _ _ zeros walked c.in-All.is separated;
-      bits_after = words_separator a.image.now a.h a.budget _ _ _ zeros walked c.in-All.is separated;
+      value = database_separator a.image.now a.h a.budget _ _ c.requires.bits_value walked separated;
+      bits_after = words_separator a.image.now a.h a.budget _ _ c.requires.bits_value walked separated;
     }
 
 pub count-offsets-requires : goal.count-offsets-requires
@@ -53,26 +43,24 @@ verify_data_section-requires c =
     rw c.data_section-section.ensures.result_value
     (omega (arith, l, words_section a.image.now a.h), omega (arith, section_length a.image.now a.h, f.short, f.whole))
 
-pub returns-in-To : goal.returns-in-To
-returns-in-To c =
+pub returns-in-Some : goal.returns-in-Some
+returns-in-Some c =
     let a = c.args in
-    let zeros = c.requires.bits_value in
-    let walked = c.record_networks.ensures in
+    let walked = c.in_ok-record_networks.ensures in
     let separated = sym c.is_separated.ensures ∙ c.if-not-is_separated.false in
     let swept = rw c.data_section-section.ensures.result_value at c.verify_data_section.ensures in
     record {
-      value = database_accepted a.image.now a.h a.budget _ _ _ zeros walked c.in-All.is separated _ _ swept _ _ _ c.in-To.is c.count-offsets.ensures;
-      bits_after = words_swept a.image.now a.h a.budget _ _ _ zeros walked c.in-All.is separated _ _ swept;
+      value = database_accepted a.image.now a.h a.budget _ _ c.requires.bits_value walked separated _ _ swept _ _ c.in-Some.is c.count-offsets.ensures;
+      bits_after = words_swept a.image.now a.h a.budget _ _ c.requires.bits_value walked separated _ _ swept;
     }
 
-pub returns-in-Refused-verify_data_section : goal.returns-in-Refused-verify_data_section
-returns-in-Refused-verify_data_section c =
+pub returns-in-None : goal.returns-in-None
+returns-in-None c =
     let a = c.args in
-    let zeros = c.requires.bits_value in
-    let walked = c.record_networks.ensures in
+    let walked = c.in_ok-record_networks.ensures in
     let separated = sym c.is_separated.ensures ∙ c.if-not-is_separated.false in
     let swept = rw c.data_section-section.ensures.result_value at c.verify_data_section.ensures in
     record {
-      value = database_malformed a.image.now a.h a.budget _ _ _ zeros walked c.in-All.is separated _ _ swept c.in-Refused-verify_data_section.is;
-      bits_after = words_swept a.image.now a.h a.budget _ _ _ zeros walked c.in-All.is separated _ _ swept;
+      value = database_malformed a.image.now a.h a.budget _ _ c.requires.bits_value walked separated _ _ swept c.in-None.is;
+      bits_after = words_swept a.image.now a.h a.budget _ _ c.requires.bits_value walked separated _ _ swept;
     }

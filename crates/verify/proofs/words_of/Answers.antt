@@ -12,4 +12,4 @@ pub overflow_sub-image : goal.overflow_sub-image
 overflow_sub-image c = let f = fit _ _ c.requires in omega (arith, f.whole)
 
 pub overflow_add-result : goal.overflow_add-result
-overflow_add-result c = let f = fit _ _ c.requires in omega (arith, f.short, f.whole, c.longer.ensures)
+overflow_add-result c = let f = fit _ _ c.requires in omega (arith, f.short, f.whole, c.max.ensures)
