@@ -8,14 +8,15 @@ use lib.ListN.{length, replicate, length-take, length-drop}
 use lib.Dec.{eqb, leb}
 use borrow.Author.Tests.{eqb-true, leb-true}
 use Rattle.number.proofs.Tests.{chosen_first}
-use Rattle.refusal.specs.Refusals as refusal
+use Rattle.std.specs.Prelude.{Result, Ok, Err}
+use Rattle.refusal.specs.declared.Refusal.{Refusal}
+use Rattle.refusal.specs.declared.Refusal.TheVariants as refusal
 use Rattle.handle.specs.declared.Handle.{Handle}
 use Rattle.handle.specs.Handle.{fits_of}
 use Rattle.handle.proofs.HandleLaws.{fit}
 use Rattle.section.specs.Section.{section_of}
 use Rattle.opening.specs.Opening.{open_of}
 use Rattle.opening.specs.declared.Reader.{Reader}
-use Rattle.opening.specs.declared.Opened as opened
 use Rattle.opening.proofs.OpeningLaws.{open_fits}
 use Rattle.marks.specs.Marks.{contains, distinct, Below}
 use Rattle.marks.proofs.MarkLaws.{size_distinct}
@@ -24,16 +25,15 @@ use Rattle.sweep.specs.Sweep.{data_accepted, metadata_accepted}
 use Rattle.sweep.proofs.Swept.{data_sound, metadata_sound}
 use Rattle.recording.specs.Recording.{Tour, tour_of}
 use Rattle.recording.proofs.TourLaws.{tour_below}
-use Rattle.verify.specs.declared.Verified.TheVariants.{Accepted, Refused}
-use Rattle.verify.specs.Verify.{metadata_in, words_of, separator_of, all_zero, database_on, database_of, verdict_of, out, cleared, verify_on, verify_of}
+use Rattle.verify.specs.Verify.{Verified, metadata_in, words_of, separator_of, all_zero, database_on, database_of, verdict_of, out, cleared, verify_on, verify_of}
 use Rattle.accepted.specs.Accepted.{Bytes, verify_walk, Whole}
 use Rattle.accepted.specs.Values.{Reached, Usable}
 use Rattle.accepted.proofs.Ways.{way_ends, way_faulty}
 use Rattle.accepted.proofs.Tours.{Ends, all, refused, uncut, tour_ends, visits}
 use Rattle.accepted.proofs.Reading.{sound_usable}
 
-never : {number n : ℕ} → Refused number ≡ Accepted n → ⊥
-never e = let z : ◌≡◌ {A = ℕ} 0 1 = cc in omega arith
+never : {r : Refusal} {n : ℕ} → ◌≡◌ {A = Verified} (Err r) (Ok n) → ⊥
+never e = cc
 
 -- bytes that are all 0
 zeros : (l : List ℕ) → all_zero l ≡ true → l ≡ replicate (length l) 0
@@ -80,7 +80,7 @@ metadata_usable_lem m e p r =
     sound_usable m x.0 x.2 p (reached_more m (eqb 0) x.0 (λ t f. subst (λ (k : ℕ). x.0 k ≡ true) (eqb-true 0 t f) x.1) r)
 
 module _ (s : List ℕ) (bytes : Bytes s) (n : ℕ) where
-  module _ (r : Reader) (opens : open_of s ≡ opened.TheVariants.Is r) where
+  module _ (r : Reader) (opens : open_of s ≡ Ok r) where
     abbrev h : Handle
     h = r.handle
 
@@ -88,12 +88,12 @@ module _ (s : List ℕ) (bytes : Bytes s) (n : ℕ) where
     fits = open_fits s bytes opens
 
     module _ (meta : metadata_accepted (metadata_in s h) ≡ true) (named : 1 ≤ r.metadata.database.size) (described : 1 ≤ r.metadata.description.size) where
-      whole_tour : (t : Tour) → Below (length (section_of s h)) t.offsets → Ends s h fits (3 * h.nodes) (verify_walk s h) t → database_on s h t ≡ Accepted n → Whole s n
-      whole_tour t below (refused number w offsets) e = absurd (never e)
+      whole_tour : (t : Tour) → Below (length (section_of s h)) t.offsets → Ends s h fits (3 * h.nodes) (verify_walk s h) t → database_on s h t ≡ Ok n → Whole s n
+      whole_tour t below (refused r w offsets) e = absurd (never e)
       whole_tour t below (all l f) e =
           let a = chosen_first (all_zero (separator_of s h.base)) never e in
           let b = chosen_first (data_accepted (section_of s h) (contains t.offsets)) never a.1 in
-          let c : Accepted (distinct t.offsets) ≡ Accepted n = b.1 in
+          let c : Ok (distinct t.offsets) ≡ Ok n = b.1 in
           let x = data_sound (section_of s h) (contains t.offsets) b.0 in
           let k : distinct t.offsets ≡ n = cc in
           record {
@@ -125,7 +125,7 @@ module _ (s : List ℕ) (bytes : Bytes s) (n : ℕ) where
                 };
           }
 
-    whole_verdict : (budget : ℕ) → verdict_of s r budget ≡ Accepted n → Whole s n
+    whole_verdict : (budget : ℕ) → verdict_of s r budget ≡ Ok n → Whole s n
     unfolding verdict_of database_of
     whole_verdict budget e =
         let a = chosen_first (metadata_accepted (metadata_in s h)) never e in
@@ -134,15 +134,15 @@ module _ (s : List ℕ) (bytes : Bytes s) (n : ℕ) where
         whole_tour a.0 (leb-true _ _ b.0) (leb-true _ _ c.0) (tour_of s h budget) (tour_below s h budget) (tour_ends s h fits budget) c.1
 
   -- AN ACCEPTED IMAGE IS WHOLE
-  pub accepted : (ws : List ℕ) (budget : ℕ) → (verify_of s ws budget).answer ≡ Accepted n → Whole s n
+  pub accepted : (ws : List ℕ) (budget : ℕ) → (verify_of s ws budget).answer ≡ Ok n → Whole s n
   unfolding verify_of
   accepted ws budget e = by (open_of s) refl e
     where
-      room : (r : Reader) → open_of s ≡ opened.TheVariants.Is r → (t : Bool)
-          → (cond t (out (verdict_of s r budget) (cleared (words_of s r.handle) ws)) (out (Refused refusal.scratch) ws)).answer ≡ Accepted n → Whole s n
+      room : (r : Reader) → open_of s ≡ Ok r → (t : Bool)
+          → (cond t (out (verdict_of s r budget) (cleared (words_of s r.handle) ws)) (out (Err refusal.Scratch) ws)).answer ≡ Ok n → Whole s n
       room r o true f = whole_verdict r o budget f
       room r o false f = absurd (never f)
 
-      by : (o : opened.Opened) → open_of s ≡ o → (verify_on s ws budget o).answer ≡ Accepted n → Whole s n
-      by (opened.TheVariants.Is r) o f = room r o (leb (words_of s r.handle) (length ws)) f
-      by (opened.TheVariants.Refused number) o f = absurd (never f)
+      by : (o : Result Reader Refusal) → open_of s ≡ o → (verify_on s ws budget o).answer ≡ Ok n → Whole s n
+      by (Ok r) o f = room r o (leb (words_of s r.handle) (length ws)) f
+      by (Err r) o f = absurd (never f)

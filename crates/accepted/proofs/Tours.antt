@@ -8,7 +8,9 @@ use native.Mathlib.Omega.{arith}
 use lib.ListN.{length, length-set}
 use lib.Dec.{eqb}
 use borrow.Author.Tests.{eq-eqb, eqb-true}
-use Rattle.refusal.specs.Refusals as refusal
+use Rattle.std.specs.Prelude.{Option, Some, None, Ok, Err}
+use Rattle.refusal.specs.declared.Refusal.{Refusal}
+use Rattle.refusal.specs.declared.Refusal.TheVariants as refusal
 use Rattle.handle.specs.declared.Handle.{Handle}
 use Rattle.handle.specs.Handle.{fits_of}
 use Rattle.handle.proofs.HandleLaws.{fit}
@@ -17,8 +19,6 @@ use Rattle.place.specs.Kinds.{is_alias}
 use Rattle.place.specs.Turns.{child_of}
 use Rattle.place.specs.declared.Place.{Place}
 use Rattle.place.specs.declared.Network.{Network}
-use Rattle.place.specs.declared.Offset.{Offset}
-use Rattle.place.specs.declared.Offset.TheVariants.{At, None}
 use Rattle.place.specs.declared.Outcome.{Outcome}
 use Rattle.place.specs.declared.Outcome.TheVariants.{Given, Failed, Refused, Paused, End}
 use Rattle.place.specs.declared.Turn.{Turn}
@@ -27,7 +27,6 @@ use Rattle.walk.specs.declared.Range.TheVariants.{Ipv4, Ipv6}
 use Rattle.walk.specs.declared.Walk.{Walk}
 use Rattle.walk.specs.declared.Called.{Called}
 use Rattle.walk.specs.declared.Started.{Started}
-use Rattle.walk.specs.declared.Status.TheVariants.{Begun}
 use Rattle.walk.specs.Walks.{none, walk_from, newest, taken, added}
 use Rattle.walk.specs.Starts.{first_of, begin_of}
 use Rattle.walk.specs.Calls.{turn_at, after, goes, next_of}
@@ -40,48 +39,47 @@ use Rattle.marks.specs.Marks.{contains}
 use Rattle.graph.specs.Sets.{Set}
 use Rattle.fullwalk.specs.FullWalk.{width_of, handed_out, Walked, ends, goes_on}
 use Rattle.fullwalk.proofs.WalkedLaws.{all_given}
-use Rattle.recording.specs.declared.Recorded.TheVariants as recorded
 use Rattle.recording.specs.Recording.{whole_range, options, offsets_of, reply_of, Tour, on_reply, too_many_tour, toured, tour_of}
 use Rattle.accepted.specs.Accepted.{verify_walk, offsets_in, Walking, met_bad_record, met_too_deep, too_many, budget_spent}
 use Rattle.accepted.specs.Visited.{here, Visited, OffsetOf}
 use Rattle.accepted.proofs.Turned.{Turned, alias, node, deep, bad, network, turned, Fine, Clear, AllClear, clear_more, clear_alias, clear_network, clear_node, leads_on, added_newest, added_rest, taken_back}
 
 abbrev NoFailure : Outcome → Type 0
-NoFailure a = (k : ℕ) → a ≡ Failed k → ⊥
+NoFailure a = (k : Refusal) → a ≡ Failed k → ⊥
 
 -- the offset of a network that is handed out is in a set
 abbrev GivenIn : Set → Outcome → Type 0
-GivenIn offsets a = (n : Network) → a ≡ Given n → (o : ℕ) → n.offset ≡ At o → offsets o ≡ true
+GivenIn offsets a = (n : Network) → a ≡ Given n → (o : ℕ) → n.offset ≡ Some o → offsets o ≡ true
 
 -- offsets with one network's before them
-more_offsets : (x : Offset) (l : List ℕ) (o : ℕ) → contains l o ≡ true → contains (offsets_of x ++ l) o ≡ true
+more_offsets : (x : Option ℕ) (l : List ℕ) (o : ℕ) → contains l o ≡ true → contains (offsets_of x ++ l) o ≡ true
 unfolding contains
-more_offsets (At y) l o e = by (eqb o y)
+more_offsets (Some y) l o e = by (eqb o y)
   where
     by : (t : Bool) → (t || contains l o) ≡ true
     by true = refl
     by false = e
 more_offsets None l o e = e
 
-own_offset : (x : Offset) (l : List ℕ) (o : ℕ) → x ≡ At o → contains (offsets_of x ++ l) o ≡ true
+own_offset : (x : Option ℕ) (l : List ℕ) (o : ℕ) → x ≡ Some o → contains (offsets_of x ++ l) o ≡ true
 unfolding contains
 own_offset x l o e = rw e (simp (eq-eqb o o refl))
 
-which_offset : (x : Offset) (l : List ℕ) (o : ℕ) → contains (offsets_of x ++ l) o ≡ true → (x ≡ At o) ⊎ (contains l o ≡ true)
+which_offset : (x : Option ℕ) (l : List ℕ) (o : ℕ) → contains (offsets_of x ++ l) o ≡ true → (x ≡ Some o) ⊎ (contains l o ≡ true)
 unfolding contains
-which_offset (At y) l o e = by (eqb o y) refl e
+which_offset (Some y) l o e = by (eqb o y) refl e
   where
-    by : (t : Bool) → eqb o y ≡ t → (t || contains l o) ≡ true → (At y ≡ At o) ⊎ (contains l o ≡ true)
-    by true f g = inl (ap At (sym (eqb-true o y f)))
+    by : (t : Bool) → eqb o y ≡ t → (t || contains l o) ≡ true → (Some y ≡ Some o) ⊎ (contains l o ≡ true)
+    by true f g = inl (ap (λ (k : ℕ). Some k) (sym (eqb-true o y f)))
     by false f g = inr g
 which_offset None l o e = inr e
 
 module _ (s : List ℕ) (h : Handle) where
   -- what a call of this walk answers
   data Sort : Outcome → Type 0 where
-    given : (n : Network) → ((o : ℕ) → n.offset ≡ At o → OffsetOf s h o) → Sort (Given n)
-    faulty : Sort (Failed refusal.bad_record)
-    too_deep : Sort (Failed refusal.too_deep)
+    given : (n : Network) → ((o : ℕ) → n.offset ≡ Some o → OffsetOf s h o) → Sort (Given n)
+    faulty : Sort (Failed refusal.Record)
+    too_deep : Sort (Failed refusal.TooDeep)
     paused : Sort Paused
     end : Sort End
 
@@ -111,10 +109,10 @@ module _ (s : List ℕ) (h : Handle) where
       where
         by : {t : Turn} → Turned s h at t → t ≡ Passed → Clear s h offsets at
         by (alias a) q = clear_alias s h offsets at a
-        by (node a v l) q = let z : ◌≡◌ {A = ℕ} 0 1 = cc in absurd (omega arith)
-        by (deep v l a) q = let z : ◌≡◌ {A = ℕ} 0 1 = cc in absurd (omega arith)
-        by (bad i a) q = let z : ◌≡◌ {A = ℕ} 0 1 = cc in absurd (omega arith)
-        by (network n a v i x) q = let z : ◌≡◌ {A = ℕ} 0 1 = cc in absurd (omega arith)
+        by (node a v l) q = absurd (cc)
+        by (deep v l a) q = absurd (cc)
+        by (bad i a) q = absurd (cc)
+        by (network n a v i x) q = absurd (cc)
 
     -- a place that is handed out
     record GivenOut (a : Outcome) : Type 0 where
@@ -126,23 +124,23 @@ module _ (s : List ℕ) (h : Handle) where
     handed_out_lem a e = by at_turned e
       where
         by : {t : Turn} → Turned s h at t → t ≡ Out a → GivenOut a
-        by (alias i) q = let z : ◌≡◌ {A = ℕ} 0 1 = cc in absurd (omega arith)
-        by (node i v l) q = let z : ◌≡◌ {A = ℕ} 0 1 = cc in absurd (omega arith)
+        by (alias i) q = absurd (cc)
+        by (node i v l) q = absurd (cc)
         by (deep v l i) q =
-            let f : Failed refusal.too_deep ≡ a = cc in
+            let f : Failed refusal.TooDeep ≡ a = cc in
             subst GivenOut f
             (record {
               sort = too_deep;
-              back = λ offsets n k. absurd (n refusal.too_deep refl);
-              going = λ r. let z : ◌≡◌ {A = ℕ} 0 1 = cc in omega arith;
+              back = λ offsets n k. absurd (n refusal.TooDeep refl);
+              going = λ r. cc;
             })
         by (bad x i) q =
-            let f : Failed refusal.bad_record ≡ a = cc in
+            let f : Failed refusal.Record ≡ a = cc in
             subst GivenOut f
             (record {
               sort = faulty;
-              back = λ offsets n k. absurd (n refusal.bad_record refl);
-              going = λ r. let z : ◌≡◌ {A = ℕ} 0 1 = cc in omega arith;
+              back = λ offsets n k. absurd (n refusal.Record refl);
+              going = λ r. cc;
             })
         by (network n j v i x) q =
             let f : Given n ≡ a = cc in
@@ -150,7 +148,7 @@ module _ (s : List ℕ) (h : Handle) where
             (record {
               sort = given n (λ o e. let y = x.from o e in record { place = at; visited = at_visited; own = j; length = y.0; leads = y.1 });
               back = λ offsets m k. clear_network s h offsets at v i (λ o l e. k n refl o (x.to o l e));
-              going = λ r. let z : ◌≡◌ {A = ℕ} 0 1 = cc in omega arith;
+              going = λ r. cc;
             })
 
     -- a place that is opened
@@ -159,11 +157,11 @@ module _ (s : List ℕ) (h : Handle) where
       inner = by at_turned e
         where
           by : {t : Turn} → Turned s h at t → t ≡ Opened → (is_alias h (width_of h) at ≡ false) × (at.value < h.nodes) × (at.len < width_of h)
-          by (alias i) q = let z : ◌≡◌ {A = ℕ} 0 1 = cc in absurd (omega arith)
+          by (alias i) q = absurd (cc)
           by (node i v l) q = (i, v, l)
-          by (deep v l i) q = let z : ◌≡◌ {A = ℕ} 0 1 = cc in absurd (omega arith)
-          by (bad x i) q = let z : ◌≡◌ {A = ℕ} 0 1 = cc in absurd (omega arith)
-          by (network n a v i x) q = let z : ◌≡◌ {A = ℕ} 0 1 = cc in absurd (omega arith)
+          by (deep v l i) q = absurd (cc)
+          by (bad x i) q = absurd (cc)
+          by (network n a v i x) q = absurd (cc)
 
       abbrev right : Place
       right = child_of s h.size w.width at 1
@@ -224,7 +222,7 @@ module _ (s : List ℕ) (h : Handle) where
           own = g;
           sort = paused;
           back = λ offsets k j c. c;
-          ended = λ e. absurd (let z : ◌≡◌ {A = ℕ} 0 1 = cc in omega arith);
+          ended = λ e. absurd (cc);
         };
         handed = λ n t w a r e g.
             let o = handed_out_lem w g r.0 a e in
@@ -258,16 +256,16 @@ module _ (s : List ℕ) (h : Handle) where
     next_call w b g = simp fits (goes_call b 0 w g)
 
     -- the walk begins at the root, and is never refused
-    pub started4 : h.version ≡ 4 → begin_of s h (Ipv4 0 0) options ≡ record { status = Begun; walk = walk_from none 32 options }
+    pub started4 : h.version ≡ 4 → begin_of s h (Ipv4 0 0) options ≡ record { status = Ok tt; walk = walk_from none 32 options }
     unfolding begin_of first_of down
     started4 v = simp (fits, v, ((fit h (length s) fits).only4 v).0)
 
-    started6 : h.version ≡ 6 → begin_of s h (Ipv6 (record { high = 0; low = 0 }) 0) options ≡ record { status = Begun; walk = walk_from none 128 options }
+    started6 : h.version ≡ 6 → begin_of s h (Ipv6 (record { high = 0; low = 0 }) 0) options ≡ record { status = Ok tt; walk = walk_from none 128 options }
     unfolding begin_of first_of down
     started6 v = simp (fits, v)
 
     -- THE WALK OF VERIFICATION BEGINS
-    pub started : begin_of s h (whole_range h) options ≡ record { status = Begun; walk = walk_from none (width_of h) options }
+    pub started : begin_of s h (whole_range h) options ≡ record { status = Ok tt; walk = walk_from none (width_of h) options }
     started =
         ⊎_elim
         (λ v. let e : eqb h.version 4 ≡ true = rw v in let f : eqb h.version 6 ≡ false = rw v in rw (e, f) (started4 v))
@@ -296,7 +294,7 @@ module _ (s : List ℕ) (h : Handle) where
     -- ONE LIST OF OUTCOMES, HOWEVER THE WALK IS CUT
     pub uncut : {l m : List Outcome} → Walked s h (verify_walk s h) l → Walked s h (verify_walk s h) m → l ≡ m
     uncut p q =
-        let begun : (begin_of s h (whole_range h) options).status ≡ Begun = ap (λ (x : Started). x.status) started in
+        let begun : (begin_of s h (whole_range h) options).status ≡ Ok tt = ap (λ (x : Started). x.status) started in
         all_given s h fits (whole_range h) options addressed begun p ∙ sym (all_given s h fits (whole_range h) options addressed begun q)
 
     -- a walk that came to its end: its networks, and how their offsets and the places that it visits go together
@@ -308,8 +306,8 @@ module _ (s : List ℕ) (h : Handle) where
 
     -- how a walk ends that may hand out so many networks
     pub data Ends (more : ℕ) (w : Walk) : Tour → Type 0 where
-      all : (l : List Network) → Finished more w l → Ends more w (record { offsets = offsets_in l; ended = recorded.All })
-      refused : (number : ℕ) → Walking number → (offsets : List ℕ) → Ends more w (record { offsets = offsets; ended = recorded.Refused number })
+      all : (l : List Network) → Finished more w l → Ends more w (record { offsets = offsets_in l; ended = Ok tt })
+      refused : (number : Refusal) → Walking number → (offsets : List ℕ) → Ends more w (record { offsets = offsets; ended = Err number })
 
     module _ (b : ℕ) (w : Walk) (g : Own w) where
       abbrev c : Called
@@ -328,12 +326,12 @@ module _ (s : List ℕ) (h : Handle) where
             walked = ends b e;
             few = omega arith;
             clear =
-                k.back (contains []) (λ j f. let z : ◌≡◌ {A = ℕ} 0 1 = cc in omega arith) (λ n f. let z : ◌≡◌ {A = ℕ} 0 1 = cc in absurd (omega arith))
+                k.back (contains []) (λ j f. cc) (λ n f. absurd (cc))
                 (none_clear (contains []) c.walk (k.ended e));
             known = λ o f. absurd (false≢true f);
           }))
 
-      module _ (more : ℕ) (n : Network) (from : (o : ℕ) → n.offset ≡ At o → OffsetOf s h o) (e : c.answer ≡ Given n) where
+      module _ (more : ℕ) (n : Network) (from : (o : ℕ) → n.offset ≡ Some o → OffsetOf s h o) (e : c.answer ≡ Given n) where
         finished : (l : List Network) → Finished more c.walk l → Finished (suc more) w (n ∷ l)
         unfolding offsets_in
         finished l q =
@@ -341,7 +339,7 @@ module _ (s : List ℕ) (h : Handle) where
               walked = subst (λ (a : Outcome). Walked s h w (handed_out a ++ map Given l)) e (goes_on b q.walked);
               few = let f = q.few in omega arith;
               clear =
-                  k.back (contains (offsets_in (n ∷ l))) (λ j f. let z : ◌≡◌ {A = ℕ} 0 1 = cc in omega arith)
+                  k.back (contains (offsets_in (n ∷ l))) (λ j f. cc)
                   (λ m f o x. let y : n ≡ m = cc in own_offset n.offset (offsets_in l) o (ap (λ (j : Network). j.offset) y ∙ x))
                   (clear_more s h (contains (offsets_in l)) (contains (offsets_in (n ∷ l))) (more_offsets n.offset (offsets_in l)) c.walk q.clear);
               known = λ o f. ⊎_elim (from o) (q.known o) (which_offset n.offset (offsets_in l) o f);
@@ -356,19 +354,19 @@ module _ (s : List ℕ) (h : Handle) where
             by (refused number x offsets) = refused number x _
 
       by_sort : (more : ℕ) (rest : Tour) (a : Outcome) → c.answer ≡ a → Sort a
-          → ((n : Network) → ((o : ℕ) → n.offset ≡ At o → OffsetOf s h o) → c.answer ≡ Given n → Ends more w (on_reply (reply_of c.answer) rest))
+          → ((n : Network) → ((o : ℕ) → n.offset ≡ Some o → OffsetOf s h o) → c.answer ≡ Given n → Ends more w (on_reply (reply_of c.answer) rest))
           → Ends more w (on_reply (reply_of c.answer) rest)
       by_sort more rest (Given n) e (given _ from) on = on n from e
-      by_sort more rest (Failed j) e faulty on = rw e (refused refusal.bad_record met_bad_record [])
-      by_sort more rest (Failed j) e too_deep on = rw e (refused refusal.too_deep met_too_deep [])
-      by_sort more rest Paused e paused on = rw e (refused refusal.budget budget_spent [])
+      by_sort more rest (Failed j) e faulty on = rw e (refused refusal.Record met_bad_record [])
+      by_sort more rest (Failed j) e too_deep on = rw e (refused refusal.TooDeep met_too_deep [])
+      by_sort more rest Paused e paused on = rw e (refused refusal.Budget budget_spent [])
       by_sort more rest End e end on = at_end more rest e
       by_sort more rest (Refused _) e x on = elim x [ ]
 
     tours : (more b : ℕ) (w : Walk) → Own w → Ends more w (toured s h more b w)
     unfolding toured
     tours zero b w g =
-        by_sort b w g zero too_many_tour (next_of s h w b).answer refl (k b w g).sort (λ n from e. rw e (refused refusal.too_many_networks too_many _))
+        by_sort b w g zero too_many_tour (next_of s h w b).answer refl (k b w g).sort (λ n from e. rw e (refused refusal.TooManyNetworks too_many _))
     tours (suc more) b w g =
         by_sort b w g (suc more) _ (next_of s h w b).answer refl (k b w g).sort
         (λ n from e. at_network b w g more n from e _ (tours more (b - (next_of s h w b).taken) (next_of s h w b).walk (k b w g).own))
@@ -379,11 +377,11 @@ module _ (s : List ℕ) (h : Handle) where
     tour_ends budget = tours (3 * h.nodes) budget (verify_walk s h) own_start
 
     -- 11, 12, 19 or 21: never 9, 13 or 14
-    pub tour_refusals : (budget : ℕ) {number : ℕ} → (tour_of s h budget).ended ≡ recorded.Refused number → Walking number
+    pub tour_refusals : (budget : ℕ) {number : Refusal} → (tour_of s h budget).ended ≡ Err number → Walking number
     tour_refusals budget {number} e = by (tour_ends budget) e
       where
-        by : {t : Tour} → Ends (3 * h.nodes) (verify_walk s h) t → t.ended ≡ recorded.Refused number → Walking number
-        by (all l w) f = let z : ◌≡◌ {A = ℕ} 0 1 = cc in absurd (omega arith)
+        by : {t : Tour} → Ends (3 * h.nodes) (verify_walk s h) t → t.ended ≡ Err number → Walking number
+        by (all l w) f = absurd (cc)
         by (refused k w offsets) f = let g : k ≡ number = cc in subst Walking g w
 
     -- where all waiting places are clear, so is every place that is visited

@@ -10,16 +10,15 @@ use lib.ListN.{length, get_or}
 use lib.Seq.{get_or-set_same, get_or-set_other}
 use lib.Dec.{ltb}
 use borrow.Author.Tests.{le-leb, ltb-true, ltb-false}
-use Rattle.refusal.specs.Refusals.{bad_record, too_deep}
+use Rattle.std.specs.Prelude.{Option, Some, None}
+use Rattle.refusal.specs.declared.Refusal.TheVariants as refusal
 use Rattle.handle.specs.declared.Handle.{Handle}
-use Rattle.tree.specs.Lookup.{answer_of}
-use Rattle.tree.specs.declared.Answer as way
-use Rattle.tree.specs.declared.Answer.TheVariants.{Found, NotFound, Invalid}
+use Rattle.tree.specs.Lookup.{found, answer_of}
+use Rattle.tree.specs.declared.Found.{Found}
 use Rattle.place.specs.Kinds.{is_alias}
-use Rattle.place.specs.Turns.{child_of, end_of, turn_of}
+use Rattle.place.specs.Turns.{child_of, end_at, end_of, turn_of}
 use Rattle.place.specs.declared.Place.{Place}
 use Rattle.place.specs.declared.Network.{Network}
-use Rattle.place.specs.declared.Offset.TheVariants.{At, None}
 use Rattle.place.specs.declared.Outcome.TheVariants.{Given, Failed}
 use Rattle.place.specs.declared.Turn.{Turn}
 use Rattle.place.specs.declared.Turn.TheVariants.{Passed, Out, Opened}
@@ -32,11 +31,8 @@ use Rattle.graph.specs.Sets.{Set}
 use Rattle.recording.specs.Recording.{options}
 use Rattle.accepted.specs.Visited.{Leads, here, below, room, FaultyAt}
 
-no_offset : {A : Type 0} {o : ℕ} → None ≡ At o → A
-no_offset e = let z : ◌≡◌ {A = ℕ} 0 1 = cc in absurd (omega arith)
-
 module _ (s : List ℕ) (h : Handle) where
-  abbrev answer_at : Place → way.Answer
+  abbrev answer_at : Place → Option Found
   answer_at p = answer_of h.nodes (room s h) p.value p.len
 
   abbrev Alias : Place → Bool → Type 0
@@ -44,33 +40,37 @@ module _ (s : List ℕ) (h : Handle) where
 
   -- the offset of a place's network is the one that the place leads to
   pub record Offsets (p : Place) (n : Network) : Type 0 where
-    pub to : (o l : ℕ) → answer_at p ≡ Found o l → n.offset ≡ At o
-    pub from : (o : ℕ) → n.offset ≡ At o → (l : ℕ) × (answer_at p ≡ Found o l)
+    pub to : (o l : ℕ) → answer_at p ≡ Some (found (Some o) l) → n.offset ≡ Some o
+    pub from : (o : ℕ) → n.offset ≡ Some o → (l : ℕ) × (answer_at p ≡ Some (found (Some o) l))
 
   -- by what stands at the place
   pub data Turned (p : Place) : Turn → Type 0 where
     alias : Alias p true → Turned p Passed
     node : Alias p false → p.value < h.nodes → p.len < width_of h → Turned p Opened
-    deep : p.value < h.nodes → width_of h ≤ p.len → Alias p false → Turned p (Out (Failed too_deep))
-    bad : answer_at p ≡ Invalid → Alias p false → Turned p (Out (Failed bad_record))
-    network : (n : Network) → Alias p false → h.nodes ≤ p.value → (answer_at p ≡ Invalid → ⊥) → Offsets p n → Turned p (Out (Given n))
+    deep : p.value < h.nodes → width_of h ≤ p.len → Alias p false → Turned p (Out (Failed refusal.TooDeep))
+    bad : answer_at p ≡ None → Alias p false → Turned p (Out (Failed refusal.Record))
+    network : (n : Network) → Alias p false → h.nodes ≤ p.value → (answer_at p ≡ None → ⊥) → Offsets p n → Turned p (Out (Given n))
 
   module _ (p : Place) where
-    ending : Alias p false → h.nodes ≤ p.value → (a : way.Answer) → answer_at p ≡ a → Turned p (end_of (data_section s h) h options (width_of h) p a)
-    ending f v (Found o l) e =
-        network _ f v (λ i. let z : ◌≡◌ {A = ℕ} 0 1 = cc in omega arith)
-        (record { to = λ x y g. let h : o ≡ x = cc in ap At h; from = λ x g. let h : o ≡ x = cc in (l, e ∙ ap (λ (k : ℕ). Found k l) h) })
-    ending f v (NotFound l) e =
-        network _ f v (λ i. let z : ◌≡◌ {A = ℕ} 0 1 = cc in omega arith)
+    network_here : Alias p false → h.nodes ≤ p.value → (f : Found) → answer_at p ≡ Some f → (n : Network) → n.offset ≡ f.offset → Turned p (Out (Given n))
+    network_here a v f e n same =
+        network n a v (λ i. cc)
         (record {
-          to = λ x y g. let z : ◌≡◌ {A = ℕ} 0 1 = cc in absurd (omega arith);
-          from = λ x g. no_offset g;
+          to = λ o l g. let q : f ≡ found (Some o) l = cc in same ∙ ap (λ (x : Found). x.offset) q;
+          from = λ o g. (f.len, e ∙ ap (λ (x : Option ℕ). Some (found x f.len)) (sym same ∙ g));
         })
-    ending f v Invalid e = bad e f
+
+    ending_at : Alias p false → h.nodes ≤ p.value → (o : Option ℕ) (l : ℕ) → answer_at p ≡ Some (found o l) → Turned p (end_at (data_section s h) h options (width_of h) p o)
+    ending_at a v (Some o) l e = network_here a v (found (Some o) l) e _ refl
+    ending_at a v None l e = network_here a v (found None l) e _ refl
+
+    ending : Alias p false → h.nodes ≤ p.value → (a : Option Found) → answer_at p ≡ a → Turned p (end_of (data_section s h) h options (width_of h) p a)
+    ending f v (Some y) e = ending_at f v y.offset y.len e
+    ending f v None e = bad e f
 
     pick :
         (a b c : Bool) → Alias p a → ltb p.value h.nodes ≡ b → ltb p.len (width_of h) ≡ c
-        → Turned p (cond a Passed (cond b (cond c Opened (Out (Failed too_deep))) (end_of (data_section s h) h options (width_of h) p (answer_at p))))
+        → Turned p (cond a Passed (cond b (cond c Opened (Out (Failed refusal.TooDeep))) (end_of (data_section s h) h options (width_of h) p (answer_at p))))
     pick true b c e f g = alias e
     pick false true true e f g = node e (ltb-true _ _ f) (ltb-true _ _ g)
     pick false true false e f g = deep (ltb-true _ _ f) (ltb-false _ _ g) e
@@ -81,14 +81,14 @@ module _ (s : List ℕ) (h : Handle) where
     turned = pick (is_alias h (width_of h) p) (ltb p.value h.nodes) (ltb p.len (width_of h)) refl refl refl
 
   -- a node's answer is no data
-  node_answers : (p : Place) → p.value < h.nodes → answer_at p ≡ NotFound p.len
+  node_answers : (p : Place) → p.value < h.nodes → answer_at p ≡ Some (found None p.len)
   unfolding answer_of
   node_answers p v = simp (le-leb p.value h.nodes (omega arith))
 
   -- a place that is no alias, and what it has: no fault, and no offset outside a set
   pub record Fine (offsets : Set) (q : Place) : Type 0 where
     pub faultless : FaultyAt s h q → ⊥
-    pub known : (o l : ℕ) → answer_at q ≡ Found o l → offsets o ≡ true
+    pub known : (o l : ℕ) → answer_at q ≡ Some (found (Some o) l) → offsets o ≡ true
 
   -- all places that a place leads to, aliases apart
   abbrev pub Clear : Set → Place → Type 0
@@ -105,7 +105,7 @@ module _ (s : List ℕ) (h : Handle) where
     clear_alias a q here n = absurd (false≢true (sym n ∙ a))
     clear_alias a q (below bit b n v l r) m = absurd (false≢true (sym n ∙ a))
 
-    pub clear_network : h.nodes ≤ p.value → (answer_at p ≡ Invalid → ⊥) → ((o l : ℕ) → answer_at p ≡ Found o l → offsets o ≡ true) → Clear offsets p
+    pub clear_network : h.nodes ≤ p.value → (answer_at p ≡ None → ⊥) → ((o l : ℕ) → answer_at p ≡ Some (found (Some o) l) → offsets o ≡ true) → Clear offsets p
     clear_network v i k q here n =
         record { faultless = λ f. ⊎_elim (λ x. let g = x.0 in let z : ⊥ = omega arith in z) i f; known = k }
     clear_network v i k q (below bit b n u l r) m = absurd (omega arith)
@@ -116,8 +116,8 @@ module _ (s : List ℕ) (h : Handle) where
         record {
           faultless = λ f.
               ⊎_elim (λ x. let g = x.1 in let z : ⊥ = omega arith in z)
-              (λ x. let e : NotFound p.len ≡ Invalid = sym (node_answers p v) ∙ x in let z : ◌≡◌ {A = ℕ} 0 1 = cc in omega arith) f;
-          known = λ o m x. let e : NotFound p.len ≡ Found o m = sym (node_answers p v) ∙ x in let z : ◌≡◌ {A = ℕ} 0 1 = cc in absurd (omega arith);
+              (λ x. cc (node_answers p v)) f;
+          known = λ o m x. let e : found None p.len ≡ found (Some o) m = cc (node_answers p v) in absurd (cc (ap (λ (y : Found). y.offset) e));
         }
     clear_node v l left right q (below bit b n u k r) m =
         ⊎_elim

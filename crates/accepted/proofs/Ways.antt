@@ -11,7 +11,7 @@ use Rattle.number.specs.Keys.{bit_from_top}
 use Rattle.handle.specs.declared.Handle.{Handle}
 use Rattle.tree.specs.Record.{record_at}
 use Rattle.tree.specs.Lookup.{down, answer_of}
-use Rattle.tree.specs.declared.Answer.TheVariants.{Invalid}
+use Rattle.std.specs.Prelude.{None}
 use Rattle.tree.specs.declared.Place as tree
 use Rattle.tiles.specs.Tiles.{path}
 use Rattle.place.specs.Turns.{child_of}
@@ -62,6 +62,6 @@ module _ (s : List ℕ) (h : Handle) (x : ℕ) (free : Unaliased s h x) where
   pub way_faulty : (e : EndAt (path s h.size h.nodes (width_of h) x)) → full.FaultyAt s h x → FaultyAt s h e.place
   way_faulty e f = by (rw e.same at f)
     where
-      by : (e.place.value < h.nodes) ⊎ (answer_of h.nodes (room s h) e.place.value e.place.len ≡ Invalid) → FaultyAt s h e.place
+      by : (e.place.value < h.nodes) ⊎ (answer_of h.nodes (room s h) e.place.value e.place.len ≡ None) → FaultyAt s h e.place
       by (inl k) = inl (k, e.deep k)
       by (inr k) = inr k

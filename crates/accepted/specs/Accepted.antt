@@ -1,13 +1,14 @@
 -- What an accepted image is, and what verification leaves in the scratch: docs/SCOPE.md, "Verification".
-use Rattle.std.specs.Prelude.{ℕ, ◌*◌, ◌≤◌, ◌<◌, ◌≡◌, true, false, ◌⊎◌, List, [], ◌∷◌, ◌++◌, map, length, get_or, replicate, eqb}
-use Rattle.refusal.specs.Refusals as refusal
+use Rattle.std.specs.Prelude.{ℕ, ◌*◌, ◌≤◌, ◌<◌, ◌≡◌, true, false, ◌⊎◌, List, [], ◌∷◌, ◌++◌, Some, Ok, Err, map, length, get_or, replicate, eqb}
+use Rattle.refusal.specs.Refusals.{number_of}
+use Rattle.refusal.specs.declared.Refusal.{Refusal}
+use Rattle.refusal.specs.declared.Refusal.TheVariants as refusal
 use Rattle.handle.specs.declared.Handle.{Handle}
 use Rattle.section.specs.Section.{section_of}
 use Rattle.opening.specs.Opening.{open_of}
 use Rattle.opening.specs.declared.Reader.{Reader}
-use Rattle.opening.specs.declared.Opened.TheVariants.{Is}
 use Rattle.marks.specs.Marks.{contains, size_of, Below}
-use Rattle.tree.specs.declared.Answer.TheVariants.{Found}
+use Rattle.tree.specs.Lookup.{found}
 use Rattle.place.specs.Kinds.{is_alias}
 use Rattle.place.specs.declared.Place.{Place}
 use Rattle.place.specs.declared.Network.{Network}
@@ -18,8 +19,6 @@ use Rattle.walk.specs.Starts.{begin_of}
 use Rattle.fullwalk.specs.FullWalk as full
 use Rattle.fullwalk.specs.FullWalk.{width_of, Walked, lookup}
 use Rattle.recording.specs.Recording.{whole_range, options, offsets_of}
-use Rattle.verify.specs.declared.Verified.TheVariants.{Refused}
-use Rattle.verify.specs.declared.Words.TheVariants.{Are}
 use Rattle.verify.specs.Verify.{metadata_in, separator_of, Out, cleared, scratch_words_of}
 use Rattle.accepted.specs.Visited.{Visited, FaultyAt, OffsetOf, Unaliased}
 use Rattle.accepted.specs.Values.{Usable, Reached}
@@ -34,20 +33,20 @@ Untouching number = (number ≡ 24) ⊎ ((1 ≤ number) × (number ≤ 8)) ⊎ (
 
 -- what is left in the scratch: after those it is as it was, after any other answer the needed words are 0 and the rest as it was
 pub record Leaves (s ws : List ℕ) (o : Out) : Type 0 where
-  pub untouched : (number : ℕ) → o.answer ≡ Refused number → Untouching number → o.scratch ≡ ws
-  pub clears : ((number : ℕ) → o.answer ≡ Refused number → Untouching number → ⊥)
-      → (k : ℕ) × (scratch_words_of s ≡ Are k) × (k ≤ length ws) × (o.scratch ≡ cleared k ws)
+  pub untouched : (r : Refusal) → o.answer ≡ Err r → Untouching (number_of r) → o.scratch ≡ ws
+  pub clears : ((r : Refusal) → o.answer ≡ Err r → Untouching (number_of r) → ⊥)
+      → (k : ℕ) × (scratch_words_of s ≡ Ok k) × (k ≤ length ws) × (o.scratch ≡ cleared k ws)
 
 -- the walk of verification: all addresses, networks without data included, aliases skipped
 abbrev pub verify_walk : List ℕ → Handle → Walk
 verify_walk s h = (begin_of s h (whole_range h) options).walk
 
 -- the refusals of that walk: 11, 12, 19 and 21
-pub data Walking : ℕ → Type 0 where
-  met_bad_record : Walking refusal.bad_record
-  met_too_deep : Walking refusal.too_deep
-  too_many : Walking refusal.too_many_networks
-  budget_spent : Walking refusal.budget
+pub data Walking : Refusal → Type 0 where
+  met_bad_record : Walking refusal.Record
+  met_too_deep : Walking refusal.TooDeep
+  too_many : Walking refusal.TooManyNetworks
+  budget_spent : Walking refusal.Budget
 
 -- the offsets of networks, in their order; a network without data has none
 unfoldable pub offsets_in : List Network → List ℕ
@@ -74,7 +73,7 @@ pub record Checked (s : List ℕ) (h : Handle) (n : ℕ) : Type 0 where
   -- an address whose way meets no alias, as no IPv4 address's does (`unaliased`), has no faulty path, and looking it up gives one of
   -- these offsets or no data
   pub sure : (x : ℕ) → Unaliased s h x → full.FaultyAt s h x → ⊥
-  pub found : (x : ℕ) → Unaliased s h x → (o len : ℕ) → lookup s h x ≡ Found o len → contains (offsets_in networks) o ≡ true
+  pub found : (x : ℕ) → Unaliased s h x → (o len : ℕ) → lookup s h x ≡ Some (found (Some o) len) → contains (offsets_in networks) o ≡ true
   -- verification reaches the value at each of them, those inside it and those behind pointers: all can be passed over and read,
   -- and every text is UTF-8
   pub reaches : (o : ℕ) → contains (offsets_in networks) o ≡ true → Reached (section_of s h) (contains (offsets_in networks)) o
@@ -85,7 +84,7 @@ pub record Checked (s : List ℕ) (h : Handle) (n : ℕ) : Type 0 where
 -- WHAT AN ACCEPTED IMAGE IS: it opens, neither its database type nor its description is empty, and the rest
 pub record Whole (s : List ℕ) (n : ℕ) : Type 0 where
   pub reader : Reader
-  pub opened : open_of s ≡ Is reader
+  pub opened : open_of s ≡ Ok reader
   pub named : 1 ≤ reader.metadata.database.size
   pub described : 1 ≤ reader.metadata.description.size
   pub checked : Checked s reader.handle n

@@ -1,9 +1,8 @@
 -- The places of the tree that the walk of verification visits, and where a path is faulty.
-use Rattle.std.specs.Prelude.{ℕ, ◌≤◌, ◌<◌, ◌≡◌, false, ◌⊎◌, List, length}
+use Rattle.std.specs.Prelude.{ℕ, ◌≤◌, ◌<◌, ◌≡◌, false, ◌⊎◌, List, Some, None, length}
 use Rattle.number.specs.Keys.{bit_from_top}
 use Rattle.handle.specs.declared.Handle.{Handle}
-use Rattle.tree.specs.Lookup.{answer_of}
-use Rattle.tree.specs.declared.Answer.TheVariants.{Found, Invalid}
+use Rattle.tree.specs.Lookup.{found, answer_of}
 use Rattle.place.specs.Kinds.{is_alias}
 use Rattle.place.specs.Turns.{child_of}
 use Rattle.place.specs.declared.Place.{Place}
@@ -27,7 +26,7 @@ module _ (s : List ℕ) (h : Handle) where
 
   -- an internal node at full width, or a record of 11
   abbrev pub FaultyAt : Place → Type 0
-  FaultyAt p = ((p.value < h.nodes) × (width_of h ≤ p.len)) ⊎ (answer_of h.nodes room p.value p.len ≡ Invalid)
+  FaultyAt p = ((p.value < h.nodes) × (width_of h ≤ p.len)) ⊎ (answer_of h.nodes room p.value p.len ≡ None)
 
   -- an offset to which a visited place leads that is no alias
   pub record OffsetOf (o : ℕ) : Type 0 where
@@ -35,7 +34,7 @@ module _ (s : List ℕ) (h : Handle) where
     pub visited : Visited place
     pub own : is_alias h (width_of h) place ≡ false
     pub length : ℕ
-    pub leads : answer_of h.nodes room place.value place.len ≡ Found o length
+    pub leads : answer_of h.nodes room place.value place.len ≡ Some (found (Some o) length)
 
   -- the places on the way of an address, one bit a level
   pub data OnWay (address : ℕ) : Place → Type 0 where
