@@ -3,6 +3,8 @@ use Prim.Native.Nat.{ℕ, zero, suc, ◌+◌, ◌/◌, ◌%◌}
 use mathlib.Core.Path.{◌≡◌, refl}
 use mathlib.Core.List.{List, [], ◌∷◌, ◌++◌, map}
 use lib.ListN.{replicate}
+use Rattle.std.specs.Prelude.{Ok, Err}
+use Rattle.refusal.specs.declared.Refusal.TheVariants as refusal
 use Rattle.number.specs.Bytes.{be_at}
 use Rattle.control.specs.Control.{kind_of, size_at, sized_at, head_at}
 use Rattle.control.specs.Pointers.{link_at}
@@ -30,16 +32,14 @@ use Rattle.fields.specs.Fields.{text_at, many, past_at, value_at}
 use Rattle.metadata.specs.Metadata.{key_at, pair_at, all_seen, whole_of, gather, metadata_of}
 use Rattle.opening.specs.Opening.{open_of}
 use Rattle.worked_opening.proofs.Images.{text, u16, u32, u64, zeros, image, names, fields, fields_a, spoken, type, description, english, versions_a, numbers_a, image_a}
-use Rattle.verify.specs.declared.Verified.{Verified}
-use Rattle.verify.specs.declared.Verified.TheVariants.{Accepted, Refused}
-use Rattle.verify.specs.Verify.{all_zero, database_of, verdict_of, verify_of, out}
+use Rattle.verify.specs.Verify.{Verified, all_zero, database_of, verdict_of, verify_of, out}
 
 -- image A of docs/SCOPE.md needs 6 words, and 3 places of budget: the node and its two records
 pub a_verified :
-    (verify_of image_a (replicate 8 7) 3 ≡ out (Accepted 1) (replicate 6 0 ++ 7 ∷ 7 ∷ []))
-    × (verify_of image_a (replicate 6 7) 2 ≡ out (Refused 21) (replicate 6 0))
-    × (verify_of image_a (replicate 6 7) 0 ≡ out (Refused 21) (replicate 6 0))
-    × (verify_of image_a (replicate 5 7) 3 ≡ out (Refused 22) (replicate 5 7))
+    (verify_of image_a (replicate 8 7) 3 ≡ out (Ok 1) (replicate 6 0 ++ 7 ∷ 7 ∷ []))
+    × (verify_of image_a (replicate 6 7) 2 ≡ out (Err refusal.Budget) (replicate 6 0))
+    × (verify_of image_a (replicate 6 7) 0 ≡ out (Err refusal.Budget) (replicate 6 0))
+    × (verify_of image_a (replicate 5 7) 3 ≡ out (Err refusal.Scratch) (replicate 5 7))
 unfolding image_a bytes verify_of verdict_of database_of all_zero open_of marker_of last_below agree metadata_of resolved_at entered paid gather pair_at key_at name_at field_of same_bytes value_at text_at many past_at all_seen whole_of tour_of toured next_of goes out_of_shape newest_out turn_of kinds.kind_of kinds.is_alias child_key answer_of begin_of first_of fits_of down record_at be_at distinct contains metadata_accepted data_accepted onward sweep_at leave target_at many_at past on_visit skip_at by_kind visit_at stored_at lying_at head_at sized_at size_at kind_of link_at run
 a_verified = (refl, refl, refl, refl)
 
@@ -103,36 +103,36 @@ chain = 160 ∷ 32 ∷ 0 ∷ backward 128 1
 unfoldable pub cases : List Case
 cases =
     -- an unknown key of the metadata that is no UTF-8; no database type, no description, neither
-    case (image (234 ∷ (fields_a ++ (65 ∷ 255 ∷ u16 4)))) 0 (Refused 14)
-    ∷ case (named (text "") description) 0 (Refused 17)
-    ∷ case (named type (224 ∷ [])) 0 (Refused 18)
-    ∷ case (named (text "") (224 ∷ [])) 0 (Refused 17)
+    case (image (234 ∷ (fields_a ++ (65 ∷ 255 ∷ u16 4)))) 0 (Err refusal.Malformed)
+    ∷ case (named (text "") description) 0 (Err refusal.NoDatabaseType)
+    ∷ case (named type (224 ∷ [])) 0 (Err refusal.NoDescription)
+    ∷ case (named (text "") (224 ∷ [])) 0 (Err refusal.NoDatabaseType)
     -- two networks with one offset, and with two; an alias, which is skipped
-    ∷ case (single 17 17 (224 ∷ [])) 3 (Accepted 1)
-    ∷ case (single 17 18 (224 ∷ 224 ∷ [])) 3 (Accepted 2)
-    ∷ case (made 6 1 (node 0 17 0 17) zeros (224 ∷ [])) 3 (Accepted 1)
+    ∷ case (single 17 17 (224 ∷ [])) 3 (Ok 1)
+    ∷ case (single 17 18 (224 ∷ 224 ∷ [])) 3 (Ok 2)
+    ∷ case (made 6 1 (node 0 17 0 17) zeros (224 ∷ [])) 3 (Ok 1)
     -- the separator's last byte; 11 and 12 come before it
-    ∷ case (made 4 1 (node 0 17 0 1) (replicate 15 0 ++ 1 ∷ []) (224 ∷ [])) 3 (Refused 20)
-    ∷ case (made 4 1 (node 0 2 0 1) (replicate 16 1) (224 ∷ [])) 3 (Refused 11)
-    ∷ case (made 4 1 (node 0 0 0 1) (replicate 16 1) (224 ∷ [])) 100 (Refused 12)
+    ∷ case (made 4 1 (node 0 17 0 1) (replicate 15 0 ++ 1 ∷ []) (224 ∷ [])) 3 (Err refusal.Separator)
+    ∷ case (made 4 1 (node 0 2 0 1) (replicate 16 1) (224 ∷ [])) 3 (Err refusal.Record)
+    ∷ case (made 4 1 (node 0 0 0 1) (replicate 16 1) (224 ∷ [])) 100 (Err refusal.TooDeep)
     -- 12 networks are allowed: the 13th comes with the 27th place, and one place less is 21
-    ∷ case doubled 27 (Refused 19)
-    ∷ case doubled 26 (Refused 21)
+    ∷ case doubled 27 (Err refusal.TooManyNetworks)
+    ∷ case doubled 26 (Err refusal.Budget)
     -- some 2^96 and 2^42 aliases to pass over
-    ∷ case (made 6 97 (ladder 96 0 ++ node 0 113 0 97) zeros (224 ∷ [])) 300 (Refused 21)
-    ∷ case (made 6 42 (ladder 42 0) zeros (224 ∷ [])) 300 (Refused 21)
+    ∷ case (made 6 97 (ladder 96 0 ++ node 0 113 0 97) zeros (224 ∷ [])) 300 (Err refusal.Budget)
+    ∷ case (made 6 42 (ladder 42 0) zeros (224 ∷ [])) 300 (Err refusal.Budget)
     -- a pointer to itself; a pointer to a pointer to a text; a fault that no network leads to
-    ∷ case (single 17 1 (32 ∷ 0 ∷ [])) 3 (Refused 14)
-    ∷ case (single 22 1 (66 ∷ 111 ∷ 107 ∷ 32 ∷ 0 ∷ 32 ∷ 3 ∷ [])) 3 (Accepted 1)
-    ∷ case (single 17 1 (224 ∷ 32 ∷ 1 ∷ [])) 3 (Accepted 1)
+    ∷ case (single 17 1 (32 ∷ 0 ∷ [])) 3 (Err refusal.Malformed)
+    ∷ case (single 22 1 (66 ∷ 111 ∷ 107 ∷ 32 ∷ 0 ∷ 32 ∷ 3 ∷ [])) 3 (Ok 1)
+    ∷ case (single 17 1 (224 ∷ 32 ∷ 1 ∷ [])) 3 (Ok 1)
     -- verdicts that hang on the order of a hash set: lowest offset first. Offsets 0 and 2, and the second alone
-    ∷ case (single 17 19 (32 ∷ 2 ∷ nested 128)) 3 (Refused 14)
-    ∷ case (single 19 1 (32 ∷ 2 ∷ nested 128)) 3 (Accepted 1)
-    ∷ case (single 17 19 (forward 129 0)) 3 (Refused 14)
-    ∷ case (single 19 1 (forward 129 0)) 3 (Accepted 1)
+    ∷ case (single 17 19 (32 ∷ 2 ∷ nested 128)) 3 (Err refusal.Malformed)
+    ∷ case (single 19 1 (32 ∷ 2 ∷ nested 128)) 3 (Ok 1)
+    ∷ case (single 17 19 (forward 129 0)) 3 (Err refusal.Malformed)
+    ∷ case (single 19 1 (forward 129 0)) 3 (Ok 1)
     -- offsets 255 and 257, and the second alone
-    ∷ case (made 4 1 (node 1 16 1 18) zeros chain) 3 (Accepted 2)
-    ∷ case (made 4 1 (node 1 18 0 1) zeros chain) 3 (Refused 14)
+    ∷ case (made 4 1 (node 1 16 1 18) zeros chain) 3 (Ok 2)
+    ∷ case (made 4 1 (node 1 18 0 1) zeros chain) 3 (Err refusal.Malformed)
     ∷ []
 
 pub worked : map verdict cases ≡ map (λ c. c.gives) cases
