@@ -17,7 +17,7 @@ pub struct Trace<'a> {
 impl<'a> Trace<'a> {
     fn new(lines: &'a [u8]) -> Trace<'a> {
         Trace {
-            lines: if lines.is_empty() { None } else { Some(lines) },
+            lines: (!lines.is_empty()).then_some(lines),
             sums: Sums::default(),
         }
     }
