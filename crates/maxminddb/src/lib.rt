@@ -5,33 +5,33 @@ ghost use Rattle.std.specs.Prelude.{◌≡◌, true, false, ◌+◌};
 ghost use Rattle.opening.specs.Opening.{open_of, age_of};
 ghost use Rattle.about.specs.About.{text_of};
 ghost use Rattle.about.specs.declared.Wanted.TheVariants as wanted;
-ghost use Rattle.value.specs.Parts.{spanned};
+ghost use Rattle.value.specs.Parts.{spanned, parts};
 ghost use Rattle.verify.specs.Verify.{out, scratch_words_of, verify_of};
 ghost use Rattle.walk.specs.Starts.{begin_of};
 ghost use Rattle.walk.specs.Calls.{next_of};
-ghost use Rattle.maxminddb.specs.Entries.{lookup_of, read_of, part_of, key_of, index_of};
+ghost use Rattle.maxminddb.specs.Entries.{lookup_of, read_of, part_found, part_of, key_of, index_of};
 
 use about::Wanted;
 use handle::{Handle, fits};
-use lookup::{Address, Asked, Found, find, way_of};
-use opening::{Aged, Opened};
-use path::{Cursor, Step};
+use lookup::{Address, find, way_of};
+use opening::Reader;
+use path::Cursor;
 use place::Options;
-use refusal::HANDLE;
-use section::{Barred, data_section, gate};
+use refusal::Refusal;
+use section::section_at;
+use tree::Found;
 use value::Value;
-use verify::{Verified, Words};
 use walk::{Called, Range, Started, Walk};
 
 // The numbers that the other entries take, with the metadata's own; its languages and descriptions are counted there.
-pub fn open(image: &[u8]) -> Opened
+pub fn open(image: &[u8]) -> Result<Reader, Refusal>
     ensures { result ≡ open_of image.now }
 {
     opening::open(image)
 }
 
 // Seconds from the image's build to a time, both counted from 1970: below zero where the build is later.
-pub fn age(image: &[u8], time: u64) -> Aged
+pub fn age(image: &[u8], time: u64) -> Result<i64, Refusal>
     ensures { result ≡ age_of image.now time }
 {
     opening::age(image, time)
@@ -67,48 +67,44 @@ pub fn description<'a>(image: &'a [u8], index: usize) -> &'a [u8]
 }
 
 // The network of an address: its data's offset, if it has data, and its length, counted in the tree.
-pub fn lookup(image: &[u8], h: Handle, address: Address) -> Found
+#[tactic(auto, unfolding(crate::specs::Entries::lookup_of))]
+pub fn lookup(image: &[u8], h: Handle, address: Address) -> Result<Found, Refusal>
     ensures { result ≡ lookup_of image.now h address }
 {
     if !fits(h, image.len() as u64) {
-        return Found::Refused(HANDLE);
+        return Err(Refusal::Handle);
     }
-    match way_of(h, address) {
-        Asked::By(w) => find(image, h, w),
-        Asked::Refused(r) => Found::Refused(r),
-    }
+    let way = way_of(h, address)?;
+    find(image, h, way)
 }
 
 // The value that a cursor leads to.
-pub fn read(image: &[u8], h: Handle, c: Cursor) -> Value
+#[tactic(auto, unfolding(crate::specs::Entries::read_of))]
+pub fn read(image: &[u8], h: Handle, c: Cursor) -> Result<Value, Refusal>
     ensures { result ≡ read_of image.now h c }
 {
-    match gate(h, image.len(), c.place) {
-        Barred::Free => {
-            let charge = c.charge;
-            value::read(data_section(image, h), c.place, charge)
-        }
-        Barred::By(r) => Value::Refused(r),
-    }
+    value::read(section_at(image, h, c.place)?, c.place, c.charge)
 }
 
-// A text's bytes, or a value of bytes, as a part of the image: its first 0 bytes where `read` refuses or gives another kind.
+// A text's bytes, or a value of bytes, as a part of the image: none where `read` refuses or gives another kind.
+#[tactic(auto, using(crate::proofs::EntryLaws::lent_part, crate::proofs::EntryLaws::found_barred))]
+fn found<'a>(image: &'a [u8], h: Handle, c: Cursor, bytes: bool) -> Option<&'a [u8]>
+    ensures { result ≡ parts image.entry (part_found image.now h c bytes) }
+{
+    value::part(
+        section_at(image, h, c.place).ok()?,
+        c.place,
+        c.charge,
+        bytes,
+    )
+}
+
+// These bytes, or the image's first 0.
 fn part<'a>(image: &'a [u8], h: Handle, c: Cursor, bytes: bool) -> &'a [u8]
     ensures result_value { result.now ≡ spanned image.now (part_of image.now h c bytes) }
     ensures ref_ptr_value { result.ref_ptr ≡ (image.entry.ref_ptr.0, image.entry.ref_ptr.1 + (part_of image.now h c bytes).0) }
 {
-    match gate(h, image.len(), c.place) {
-        Barred::Free => {
-            let charge = c.charge;
-            let s = data_section(image, h);
-            if value::has_part(s, c.place, charge, bytes) {
-                value::part(s, c.place, charge, bytes)
-            } else {
-                &image[..0]
-            }
-        }
-        Barred::By(_) => &image[..0],
-    }
+    found(image, h, c, bytes).unwrap_or(&image[..0])
 }
 
 pub fn text<'a>(image: &'a [u8], h: Handle, c: Cursor) -> &'a [u8]
@@ -125,34 +121,46 @@ pub fn bytes<'a>(image: &'a [u8], h: Handle, c: Cursor) -> &'a [u8]
     part(image, h, c, true)
 }
 
-// Into a map, to the value of a key.
-pub fn step_key(image: &[u8], h: Handle, c: Cursor, key: &[u8]) -> Step
+// Into a map, to the value of a key: none where no key is equal.
+#[tactic(auto, unfolding(crate::specs::Entries::key_of))]
+pub fn step_key(image: &[u8], h: Handle, c: Cursor, key: &[u8]) -> Result<Option<Cursor>, Refusal>
     ensures { result ≡ key_of image.now h c key.now }
 {
-    match gate(h, image.len(), c.place) {
-        Barred::Free => path::step_key(data_section(image, h), c, key),
-        Barred::By(r) => Step::Refused(r),
-    }
+    path::step_key(section_at(image, h, c.place)?, c, key)
 }
 
-fn step(image: &[u8], h: Handle, c: Cursor, index: usize, backward: bool) -> Step
+#[tactic(auto, unfolding(crate::specs::Entries::index_of))]
+fn step(
+    image: &[u8],
+    h: Handle,
+    c: Cursor,
+    index: usize,
+    backward: bool,
+) -> Result<Option<Cursor>, Refusal>
     ensures { result ≡ index_of image.now h c index backward }
 {
-    match gate(h, image.len(), c.place) {
-        Barred::Free => path::step_index(data_section(image, h), c, index, backward),
-        Barred::By(r) => Step::Refused(r),
-    }
+    path::step_index(section_at(image, h, c.place)?, c, index, backward)
 }
 
-// Into an array, to an element counted from the start.
-pub fn step_index(image: &[u8], h: Handle, c: Cursor, index: usize) -> Step
+// Into an array, to an element counted from the start: none past the last.
+pub fn step_index(
+    image: &[u8],
+    h: Handle,
+    c: Cursor,
+    index: usize,
+) -> Result<Option<Cursor>, Refusal>
     ensures { result ≡ index_of image.now h c index false }
 {
     step(image, h, c, index, false)
 }
 
 // Into an array, to an element counted from the end: 0 is the last.
-pub fn step_from_end(image: &[u8], h: Handle, c: Cursor, index: usize) -> Step
+pub fn step_from_end(
+    image: &[u8],
+    h: Handle,
+    c: Cursor,
+    index: usize,
+) -> Result<Option<Cursor>, Refusal>
     ensures { result ≡ index_of image.now h c index true }
 {
     step(image, h, c, index, true)
@@ -173,14 +181,14 @@ pub fn next(image: &[u8], h: Handle, w: Walk, budget: u64) -> Called
 }
 
 // How many words of scratch verification needs.
-pub fn scratch_words(image: &[u8]) -> Words
+pub fn scratch_words(image: &[u8]) -> Result<u64, Refusal>
     ensures { result ≡ scratch_words_of image.now }
 {
     verify::scratch_words(image)
 }
 
 // Whether the whole image is sound, after at most `budget` places of its tree; and how many distinct offsets its networks have.
-pub fn verify(image: &[u8], scratch: &mut [u64], budget: u64) -> Verified
+pub fn verify(image: &[u8], scratch: &mut [u64], budget: u64) -> Result<u64, Refusal>
     ensures { out result scratch.new ≡ verify_of image.now scratch.old budget }
 {
     verify::verify(image, scratch, budget)

@@ -1,20 +1,15 @@
 // Where texts and bytes lie in an image, in numbers: for callers to whom no part of the image can be handed.
 #![tactic(auto)]
 
-ghost use Rattle.std.specs.Prelude.{◌≡◌, ◌+◌, ◌≤◌};
-ghost use Rattle.handle.specs.Handle.{image_bound};
+ghost use Rattle.std.specs.Prelude.{◌≡◌, option_map};
 ghost use Rattle.about.specs.About.{text_of};
-ghost use Rattle.stored.specs.Stored.{resolved_at};
-ghost use Rattle.value.specs.Parts.{payload_of};
-ghost use Rattle.maxminddb.specs.Entries.{part_of, placed};
+ghost use Rattle.maxminddb.specs.Entries.{part_found, part_of};
 ghost use Rattle.spans.specs.Spans.{span_of};
 
 use about::Wanted;
 use handle::Handle;
 use path::Cursor;
-use section::{Barred, data_section, gate};
-use stored::{Layout, resolved};
-use value::{Extent, payload_size};
+use section::section_at;
 
 // A part of the image, counted from its first byte.
 #[repr(C)]
@@ -35,42 +30,26 @@ pub fn metadata_text(image: &[u8], wanted: Wanted, index: usize) -> Span
     }
 }
 
-fn payload_of(l: Layout) -> usize
-    ensures { result ≡ payload_of l }
+// None where reading refuses or gives another kind.
+#[tactic(auto, using(maxminddb::proofs::EntryLaws::found_barred, crate::proofs::SpanLaws::part_from_image, crate::proofs::SpanLaws::part_inside))]
+fn found(image: &[u8], h: Handle, c: Cursor, bytes: bool) -> Option<Span>
+    ensures { result ≡ option_map span_of (part_found image.now h c bytes) }
 {
-    match l {
-        Layout::At {
-            kind: _,
-            size: _,
-            payload,
-            next: _,
-        } => payload,
-        Layout::Bad => 0,
-    }
+    let s = section_at(image, h, c.place).ok()?;
+    let (from, size) = value::place(s, c.place, c.charge, bytes)?;
+    Some(Span {
+        place: h.base + from as u64,
+        length: size as u64,
+    })
 }
 
-// The bytes of a text, or of a value of bytes: no bytes at the image's start where reading refuses or gives another kind.
+// The bytes of a text, or of a value of bytes: no bytes at the image's start where there are none.
+#[tactic(auto, using(maxminddb::proofs::EntryLaws::part_of_found))]
 pub fn part(image: &[u8], h: Handle, c: Cursor, bytes: bool) -> Span
     ensures { result ≡ span_of (part_of image.now h c bytes) }
 {
-    match gate(h, image.len(), c.place) {
-        Barred::Free => {
-            let charge = c.charge;
-            let s = data_section(image, h);
-            match payload_size(value::read(s, c.place, charge), bytes) {
-                Extent::Of(n) => Span {
-                    place: h.base + payload_of(resolved(s, c.place)) as u64,
-                    length: n as u64,
-                },
-                Extent::Nothing => Span {
-                    place: 0,
-                    length: 0,
-                },
-            }
-        }
-        Barred::By(_) => Span {
-            place: 0,
-            length: 0,
-        },
-    }
+    found(image, h, c, bytes).unwrap_or(Span {
+        place: 0,
+        length: 0,
+    })
 }
