@@ -1,6 +1,6 @@
 -- Bytes and images worked by hand: docs/SCOPE.md, "Worked cases", those marked P, in its order. The proofs, by computation, are in
 -- proofs/Worked.antt.
-use Rattle.std.specs.Prelude.{ℕ, ◌*◌, ◌%◌, ◌^◌, ◌≡◌, Bool, true, false, List, [], ◌∷◌, ◌++◌, get_or, pos, negsuc, Option, Some, None, Result, Ok, Err}
+use Rattle.std.specs.Prelude.{ℕ, ◌*◌, ◌%◌, ◌^◌, ◌≡◌, Bool, true, false, List, [], ◌∷◌, ◌++◌, get_or, pos, negsuc, Some, None, Result, Ok, Err}
 use Rattle.number.specs.Keys.{key_of}
 use Rattle.refusal.specs.declared.Refusal.{Refusal}
 use Rattle.refusal.specs.declared.Refusal.TheVariants as refusal
