@@ -103,7 +103,7 @@ looked s a = with s a (open_of s)
 
 -- 7. Image A: IPv4, one node 00 00 11 00 00 01, data E0. 1.2.3.4 has offset 0 and length 1; 200.0.0.1 no data, length 1
 abbrev pub Case7 : Type 0
-Case7 = 
+Case7 =
     (looked (image 4 17 1) (V4 0x01020304) ≡ Ok (found (Some 0) 1)) × (looked (image 4 17 1) (V4 0xc8000001) ≡ Ok (found None 1))
 
 -- 8. A with left record 2, 16 or 18: 11. With 17: offset 0
