@@ -2,7 +2,7 @@
 use Prim.Native.Nat.{ℕ, ◌+◌, ◌-◌, ◌^◌, ◌≤◌, ◌<◌}
 use mathlib.Core.Path.{◌≡◌, refl, sym, ap, ◌∙◌}
 use mathlib.Core.Bool.{Bool, true, false, cond, not, ◌&&◌, ◌||◌, false≢true, and-eq-true_iff}
-use mathlib.Core.Logic.{◌⊎◌, inl, inr, ⊎_elim}
+use mathlib.Core.Logic.{inl, inr, ⊎_elim}
 use mathlib.Core.List.{List, drop}
 use native.Mathlib.Omega.{arith}
 use lib.ListN.{length}
@@ -21,7 +21,7 @@ use Rattle.control.specs.declared.Head.{Head}
 use Rattle.value.specs.Empty.{empty_on, empty_at}
 use Rattle.place.specs.Kinds.{is_skipped}
 use Rattle.place.specs.Shape.{frame_out, key_out, newest_out}
-use Rattle.place.specs.Turns.{network_of, unless_empty, end_at, end_of, turn_of}
+use Rattle.place.specs.Turns.{network_of, unless_empty, end_of, turn_of}
 use Rattle.place.specs.declared.Outcome.{Outcome}
 use Rattle.place.specs.declared.Outcome.TheVariants as outcome
 use Rattle.place.specs.declared.Turn.{Turn}

@@ -8,7 +8,7 @@ use native.Mathlib.Omega.{arith}
 use lib.ListN.{length, take, drop}
 use lib.Dec.{ltb}
 use borrow.Author.Tests.{ltb-true, ltb-false}
-use Rattle.std.specs.Prelude.{Option, Some, None, Result, Ok, Err}
+use Rattle.std.specs.Prelude.{Option, Some, None, Ok, Err}
 use Rattle.refusal.specs.declared.Refusal.TheVariants as refusal
 use Rattle.charge.specs.Charge.{paid}
 use Rattle.charge.specs.declared.Charge.{Charge}
@@ -19,7 +19,7 @@ use Rattle.skip.specs.Skip.{past, many, skipped_at}
 use Rattle.skip.specs.declared.Past.{Past}
 use Rattle.handle.specs.declared.Handle.{Handle}
 use Rattle.section.specs.Section.{section_of}
-use Rattle.path.specs.Steps.{Step, cursor, inside, inside_at, compared, past_value, pair_on, pair_at, sought, find_from, on_skipped, element_from, key_in, key_step, index_in, index_step}
+use Rattle.path.specs.Steps.{cursor, inside, inside_at, compared, past_value, pair_on, pair_at, sought, find_from, on_skipped, element_from, key_in, key_step, index_in, index_step}
 use Rattle.path.specs.declared.Cursor.{Cursor}
 use Rattle.path.specs.declared.Pair.{Pair}
 use Rattle.path.specs.declared.Pair.TheVariants as pair
