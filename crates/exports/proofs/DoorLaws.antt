@@ -1,10 +1,7 @@
 -- Laws of the functions for C.
-use Prim.Native.Nat.{ℕ, ◌<◌, ◌^◌}
+use Prim.Native.Nat.{ℕ}
 use mathlib.Core.Path.{◌≡◌, ap, ◌∙◌}
-use mathlib.Core.Bool.{Bool, true, false, ◌&&◌, false≢true}
-use native.Mathlib.Omega.{arith}
-use lib.Dec.{eqb, leb}
-use borrow.Author.Tests.{leb-true, eq-eqb}
+use mathlib.Core.Bool.{true, false}
 use mathlib.Core.List.{List}
 use lib.ListN.{length}
 use Rattle.refusal.specs.declared.Refusal.TheVariants as refusal
@@ -16,15 +13,7 @@ use Rattle.answers.specs.Answers.{called_of}
 use Rattle.words.proofs.Kept.{held_same}
 use Rattle.walk.proofs.RowLaws as row_laws
 use Rattle.words.specs.Words.{holds_walk, walk_of}
-use Rattle.exports.specs.Doors.{in_shape, handed, next_door, rowed, rowed_in, rows_door}
-
-second : (a b : Bool) → (a && b) ≡ true → b ≡ true
-second true b e = e
-second false b e = absurd (false≢true e)
-
--- an address of width 32 that is in shape is a 32-bit number
-pub narrow : (width high low : ℕ) → in_shape width high low ≡ true → width ≡ 32 → low < 2 ^ 32
-narrow width high low e w = let l = leb-true low 4294967295 (second (eqb high 0) (leb low 4294967295) (simp (eq-eqb _ _ w) at e)) in omega (arith, l)
+use Rattle.exports.specs.Doors.{handed, next_door, rowed, rowed_in, rows_door}
 
 -- a handle that does not fit leaves the walk's words, and the rows
 module _ (s : List ℕ) (h : Handle) (ws : List ℕ) (b : ℕ) (holds : holds_walk ws ≡ true) (unfit : fits_of h (length s) ≡ false) where

@@ -48,7 +48,6 @@ fn in_shape(width: u64, high: u64, low: u64) -> bool
     }
 }
 
-#[tactic(auto, using(crate::proofs::DoorLaws::narrow))]
 fn address_of(width: u64, high: u64, low: u64) -> Result<Address, Refusal>
     ensures { result ≡ shaped width high low }
 {
