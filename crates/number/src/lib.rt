@@ -12,12 +12,6 @@ pub struct Key {
     pub low: u64,
 }
 
-pub fn wide(x: u8) -> u64
-    ensures { (result ≡ x) × (result < 256) }
-{
-    u64::from(x)
-}
-
 // Whether `k` more fit where `a` of `max` are taken; no sum that could wrap is made.
 pub fn room(a: usize, k: usize, max: usize) -> bool
     ensures { result ≡ leb (a + k) max }
