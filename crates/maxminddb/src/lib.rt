@@ -1,4 +1,5 @@
 // The public entry points. Each refuses as docs/SCOPE.md says, in its order, and calls one layer; none asks anything of its caller.
+// Image, handle and cursor stay parameters of their own: C hands each of them in by itself, and the README names these functions.
 #![tactic(auto)]
 
 ghost use Rattle.std.specs.Prelude.{◌≡◌, true, false, ◌+◌};

@@ -150,6 +150,7 @@ pub fn step_key(s: &[u8], c: Cursor, key: &[u8]) -> Result<Option<Cursor>, Refus
 }
 
 // A step into an array, to an element counted from the start or, 0 the last, from the end; none past the other end.
+// The flag is that of `index_of`, which the functions for C promise.
 #[tactic(auto, unfolding(crate::specs::Steps::index_step))]
 pub fn step_index(
     s: &[u8],

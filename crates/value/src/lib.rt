@@ -38,6 +38,7 @@ const INFINITE_DOUBLE: u64 = 0x7ff0_0000_0000_0000;
 const INFINITE_FLOAT: u32 = 0x7f80_0000;
 
 // `from_bits` has no meaning at a NaN's bits: there the language's one NaN stands beside them.
+// Two functions for two widths: std has no trait over f64 and f32, and one of our own would be longer than both.
 fn double(bits: u64) -> Value
     ensures { result ≡ double_of bits }
 {
@@ -130,7 +131,7 @@ pub fn read(s: &[u8], at: usize, c: Charge) -> Result<Value, Refusal>
     value_of(s, layout, c)
 }
 
-// How many bytes a text has, or a value of bytes.
+// How many bytes a text has or, asked for `bytes`, a value of bytes: the flag is that of `part_of`, which the functions for C promise.
 pub fn payload_size(v: Value, bytes: bool) -> Option<usize>
     ensures { result ≡ size_of bytes v }
 {
