@@ -95,6 +95,7 @@ fn visit_value(s: &[u8], at: usize, work: usize) -> Option<Visit>
 }
 
 // The value that a pointer, or the tree, leads to: once.
+// The section and the words stay two parameters: the words are lent on by their owner, and each contract speaks of them alone.
 #[cycle(verification)]
 fn verify_pointer_target(
     s: &[u8],

@@ -21,11 +21,12 @@ fn whole_range(h: Handle) -> Range
     ensures { result ≡ whole_range h }
 {
     if h.version == 4 {
-        return Range::Ipv4 { addr: 0, len: 0 };
-    }
-    Range::Ipv6 {
-        addr: Key { high: 0, low: 0 },
-        len: 0,
+        Range::Ipv4 { addr: 0, len: 0 }
+    } else {
+        Range::Ipv6 {
+            addr: Key { high: 0, low: 0 },
+            len: 0,
+        }
     }
 }
 

@@ -16,6 +16,7 @@ fn verify_recorded(s: &[u8], bits: &mut [u64], work: usize) -> Option<Skipped>
 {
     let mut left = work;
     let mut t = 0;
+    // Not a range: how far the next step goes is for the words to say, after each value has changed them.
     while t < s.len() {
         if state(bits, t) == Mark::Recorded {
             let past = skip_value_for_verification(s, bits, t, left)?;
