@@ -7,7 +7,8 @@ ghost use Rattle.handle.specs.Handle.{version_known, size_known, numbers_known, 
 // The longest image that is read.
 pub const IMAGE_BOUND: u64 = 2147483647;
 
-// IP version, node count, record size, data start, metadata start, and where IPv4 addresses start: record and depth.
+// IP version, node count, record size, data start, metadata start, and where IPv4 addresses start: record and depth. Its
+// words are those of C's `erm_handle`, so the version and the size stay numbers.
 #[repr(C)]
 #[derive(Clone, Copy)]
 pub struct Handle {

@@ -8,7 +8,8 @@ use crate::{Found, Place};
 use number::{Key, get_bit};
 
 // Goes down from `start` by the first `bits` bits of an address: all of them in a lookup, fewer to a range or the IPv4
-// start.
+// start. Bytes, size and count of the nodes stay three arguments: each caller has them in a `Handle` or a `Metadata`, and
+// would build a struct of them for this one call.
 pub fn descend(
     s: &[u8],
     size: u64,
