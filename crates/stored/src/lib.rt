@@ -44,12 +44,17 @@ pub fn stored(s: &[u8], at: usize) -> Option<Layout>
         payload,
     } = size_and_type(s, at)?;
     let next = payload.checked_add(body_of(kind, size)?)?;
-    (next <= s.len()).then_some(Layout {
-        kind,
-        size,
-        payload,
-        next,
-    })
+    // No `then_some`: it copies the layout in pieces, and who reads it waits for them.
+    if next <= s.len() {
+        Some(Layout {
+            kind,
+            size,
+            payload,
+            next,
+        })
+    } else {
+        None
+    }
 }
 
 // What a place leads to, behind at most one pointer: no pointer again, and what follows begins past the pointer.
@@ -63,7 +68,10 @@ pub fn resolved(s: &[u8], at: usize) -> Option<Layout>
     }
     let link = decode_pointer(s, value.size, value.payload)?;
     let target = stored(s, link.target)?;
-    (target.kind != Kind::Pointer).then_some(Layout {
+    if target.kind == Kind::Pointer {
+        return None;
+    }
+    Some(Layout {
         next: link.next,
         ..target
     })
