@@ -15,7 +15,8 @@ use text::utf8;
 // As many levels as may be gone down.
 const MAXIMUM_SKIPPED_DATA_STRUCTURE_DEPTH: usize = 128;
 
-// What one value asks for once it is charged; `work` is what is left.
+// What one value asks for once it is charged; `work` is what is left. A leaf has the fields of `Skipped` itself, as the others have
+// theirs: with the struct inside, each arm would name both.
 #[derive(Clone, Copy)]
 pub enum Visit {
     Leaf {

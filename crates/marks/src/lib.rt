@@ -42,6 +42,7 @@ pub fn state(bits: &[u64], t: usize) -> Mark
 {
     let k = t / 64 * 2;
     let s = t % 64;
+    // By number: the scratch holds two bits for each place, and no enum.
     match bit(bits[k], s) + 2 * bit(bits[k + 1], s) {
         0 => Mark::Free,
         1 => Mark::Recorded,

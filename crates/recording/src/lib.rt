@@ -82,6 +82,7 @@ pub fn record_networks(
     let mut walk = started.walk;
     let mut left = budget;
     let mut more = 3 * h.nodes;
+    // No range or iterator: the walk is carried from call to call, and how a call halts ends the loop.
     loop {
         let filled = next_rows(image, h, walk, &mut rows, left);
         let n = filled.rows;

@@ -15,6 +15,7 @@ use refusal::Refusal;
 use section::data_section;
 use sweep::{verify_data_section, verify_metadata_graph};
 
+// Image and handle stay two parameters here, since section, walk and recording take them so, and their callers have them apart.
 fn words_of(image: &[u8], h: Handle) -> usize
     requires { fits_of h (length image.now) ≡ true }
     ensures { result ≡ words_of image.now h }
