@@ -28,7 +28,7 @@ use Rattle.walk.specs.declared.Walk.{Walk}
 use Rattle.walk.specs.declared.Called.{Called}
 use Rattle.walk.specs.declared.Started.{Started}
 use Rattle.walk.specs.Walks.{none, walk_from, newest, taken, added}
-use Rattle.walk.specs.Starts.{first_of, begin_of}
+use Rattle.walk.specs.Starts.{first_of, whole_range, begin_of}
 use Rattle.walk.specs.Calls.{turn_at, after, goes, next_of}
 use Rattle.walk.proofs.StartLaws.{wide_in}
 use Rattle.walk.proofs.CallLaws.{by_goes}
@@ -39,7 +39,7 @@ use Rattle.marks.specs.Marks.{contains}
 use Rattle.graph.specs.Sets.{Set}
 use Rattle.fullwalk.specs.FullWalk.{width_of, handed_out, Walked, ends, goes_on}
 use Rattle.fullwalk.proofs.WalkedLaws.{all_given}
-use Rattle.recording.specs.Recording.{whole_range, options, offsets_of, reply_of, Tour, on_reply, too_many_tour, toured, tour_of}
+use Rattle.recording.specs.Recording.{options, offsets_of, reply_of, Tour, on_reply, too_many_tour, toured, tour_of}
 use Rattle.accepted.specs.Accepted.{verify_walk, offsets_in, Walking, met_bad_record, met_too_deep, too_many, budget_spent}
 use Rattle.accepted.specs.Visited.{here, Visited, OffsetOf}
 use Rattle.accepted.proofs.Turned.{Turned, alias, node, deep, bad, network, turned, Fine, Clear, AllClear, clear_more, clear_alias, clear_network, clear_node, leads_on, added_newest, added_rest, taken_back}

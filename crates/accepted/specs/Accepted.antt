@@ -15,10 +15,10 @@ use Rattle.place.specs.declared.Network.{Network}
 use Rattle.place.specs.declared.Outcome.{Outcome}
 use Rattle.place.specs.declared.Outcome.TheVariants.{Given}
 use Rattle.walk.specs.declared.Walk.{Walk}
-use Rattle.walk.specs.Starts.{begin_of}
+use Rattle.walk.specs.Starts.{whole_range, begin_of}
 use Rattle.fullwalk.specs.FullWalk as full
 use Rattle.fullwalk.specs.FullWalk.{width_of, Walked, lookup}
-use Rattle.recording.specs.Recording.{whole_range, options, offsets_of}
+use Rattle.recording.specs.Recording.{options, offsets_of}
 use Rattle.verify.specs.Verify.{metadata_in, separator_of, Out, cleared, scratch_words_of}
 use Rattle.accepted.specs.Visited.{Visited, FaultyAt, OffsetOf, Unaliased}
 use Rattle.accepted.specs.Values.{Usable, Reached}

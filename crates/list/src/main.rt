@@ -4,7 +4,6 @@
 ghost use Rattle.std.specs.Prelude.{◌≡◌, length};
 
 use handle::Handle;
-use number::Key;
 use place::{Options, Outcome};
 use recorded::read_full;
 use refusal::Refusal;
@@ -24,18 +23,6 @@ fn image_room() -> [u8; 65537]
     ensures { 65537 ≡ length result }
 {
     [0; 65537]
-}
-
-// All addresses of an IP version.
-fn all_addresses(version: u64) -> Range {
-    if version == 4 {
-        Range::Ipv4 { addr: 0, len: 0 }
-    } else {
-        Range::Ipv6 {
-            addr: Key { high: 0, low: 0 },
-            len: 0,
-        }
-    }
 }
 
 fn write_error(rt: &impl Print, why: Refusal) -> io::Result<()> {
@@ -71,12 +58,7 @@ fn list_from(rt: &impl Print, image: &[u8], h: Handle) -> io::Result<()> {
         dataless: true,
         skipempty: false,
     };
-    let Started { status, walk } = maxminddb::within(
-        image,
-        h,
-        all_addresses(h.version),
-        everything,
-    );
+    let Started { status, walk } = maxminddb::within(image, h, Range::whole(h), everything);
     match status {
         Ok(()) => list_walk(rt, image, h, walk),
         Err(why) => write_error(rt, why),

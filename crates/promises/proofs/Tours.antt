@@ -22,14 +22,14 @@ use Rattle.walk.specs.declared.Range.{Range}
 use Rattle.walk.specs.declared.Range.TheVariants.{Ipv4, Ipv6}
 use Rattle.walk.specs.declared.Walk.{Walk}
 use Rattle.walk.specs.Walks.{newest}
-use Rattle.walk.specs.Starts.{asked_of, is_ipv6_in_ipv4, first_of, refused_start, begun_with, begin_of}
+use Rattle.walk.specs.Starts.{asked_of, is_ipv6_in_ipv4, first_of, refused_start, begun_with, whole_range, begin_of}
 use Rattle.walk.specs.Calls.{data_section, goes, next_of}
 use Rattle.walk.proofs.CallLaws.{by_goes}
 use Rattle.carried.specs.Carried.{Addressed, begun}
 use Rattle.carried.proofs.InShape as carried
 use Rattle.carried.proofs.InShape.{Sound, newest_good, sound_taken, sound_opened, sound}
 use Rattle.recording.specs.Recording as reply
-use Rattle.recording.specs.Recording.{Recorded, whole_range, options, on_reply, reply_of, Tour, too_many_tour, toured, tour_of}
+use Rattle.recording.specs.Recording.{Recorded, options, on_reply, reply_of, Tour, too_many_tour, toured, tour_of}
 use Rattle.maxminddb.specs.Answers.{next_verdict}
 use Rattle.order.specs.Order.{Refuses, First}
 use Rattle.order.proofs.OrderLaws.{refuses_not}

@@ -9,12 +9,12 @@ use Rattle.opening.specs.Opening.{open_of}
 use Rattle.opening.specs.declared.Reader.{Reader}
 use Rattle.marks.specs.Marks.{contains, distinct}
 use Rattle.sweep.specs.Sweep.{data_accepted, metadata_accepted}
-use Rattle.recording.specs.Recording.{whole_range, options, tour_of}
+use Rattle.recording.specs.Recording.{options, tour_of}
 use Rattle.place.specs.declared.Network.{Network}
 use Rattle.place.specs.declared.Outcome.{Outcome}
 use Rattle.place.specs.declared.Outcome.TheVariants as outcome
 use Rattle.walk.specs.declared.Walk.{Walk}
-use Rattle.walk.specs.Starts.{begin_of}
+use Rattle.walk.specs.Starts.{whole_range, begin_of}
 use Rattle.walk.specs.Calls.{next_of}
 use Rattle.verify.specs.Verify.{Out, metadata_in, words_of, cleared}
 use Rattle.maxminddb.specs.Answers.{verify_verdict}

@@ -7,20 +7,14 @@ use Rattle.marks.specs.Marks.{record_each}
 use Rattle.place.specs.declared.Options.{Options}
 use Rattle.place.specs.declared.Outcome.{Outcome}
 use Rattle.place.specs.declared.Outcome.TheVariants as outcome
-use Rattle.walk.specs.declared.Range.{Range}
-use Rattle.walk.specs.declared.Range.TheVariants.{Ipv4, Ipv6}
 use Rattle.walk.specs.declared.Walk.{Walk}
-use Rattle.walk.specs.Starts.{begin_of}
+use Rattle.walk.specs.Starts.{whole_range, begin_of}
 use Rattle.walk.specs.Calls.{next_of}
 use Rattle.walk.specs.Rows.{no_data}
 
 -- how a walk ended: behind its last network, or by a refusal
 abbrev pub Recorded : Type 0
 Recorded = Result (Unit {0}) Refusal
-
--- every address of the image's own width
-abbrev pub whole_range : Handle → Range
-whole_range h = cond (eqb h.version 4) (Ipv4 0 0) (Ipv6 (record { high = 0; low = 0 }) 0)
 
 -- aliases skipped, networks without data included, empty values kept
 abbrev pub options : Options

@@ -6,29 +6,15 @@ ghost use Rattle.handle.specs.Handle.{fits_of};
 ghost use Rattle.marks.specs.Marks.{record_each, Below};
 ghost use Rattle.graph.specs.Words.{needed};
 ghost use Rattle.walk.specs.Calls.{data_section};
-ghost use Rattle.recording.specs.Recording.{whole_range, offsets_of, Roomy, offset_in, offsets_from, done, marked, tour_of};
+ghost use Rattle.recording.specs.Recording.{offsets_of, Roomy, offset_in, offsets_from, done, marked, tour_of};
 
 use handle::Handle;
 use marks::{Mark, set_state};
-use number::Key;
 use place::Options;
 use refusal::Refusal;
 use walk::Range;
 use walk::rows::{Halt, NO_DATA, ROW_WORDS, next_rows};
 use walk::start::begin;
-
-fn whole_range(h: Handle) -> Range
-    ensures { result ≡ whole_range h }
-{
-    if h.version == 4 {
-        Range::Ipv4 { addr: 0, len: 0 }
-    } else {
-        Range::Ipv6 {
-            addr: Key { high: 0, low: 0 },
-            len: 0,
-        }
-    }
-}
 
 // The offset in a row's last word.
 fn offset_of(word: u64) -> Option<u64>
@@ -77,7 +63,7 @@ pub fn record_networks(
         dataless: true,
         skipempty: false,
     };
-    let started = begin(image, h, whole_range(h), options);
+    let started = begin(image, h, Range::whole(h), options);
     let mut rows = [0; ROWS * ROW_WORDS];
     let mut walk = started.walk;
     let mut left = budget;

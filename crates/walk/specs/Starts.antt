@@ -17,6 +17,10 @@ use Rattle.walk.specs.declared.First.{First}
 use Rattle.walk.specs.declared.Started.{Started}
 use Rattle.walk.specs.Walks.{walk_from, no_walk}
 
+-- every address of the image's own width
+abbrev pub whole_range : Handle → Range
+whole_range h = cond (eqb h.version 4) (Ipv4 0 0) (Ipv6 (record { high = 0; low = 0 }) 0)
+
 -- what a range asks: a key of a width, and how many of its bits count
 abbrev pub asked_of : Range → Asked
 asked_of (Ipv4 addr len) = record { key = record { high = 0; low = addr }; width = 32; len = len }

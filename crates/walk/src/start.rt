@@ -2,7 +2,7 @@
 ghost use Rattle.std.specs.Prelude.{◌≡◌, true, ◌≤◌, length};
 ghost use Rattle.handle.specs.Handle.{fits_of};
 ghost use Rattle.walk.specs.Walks.{none, walk_from};
-ghost use Rattle.walk.specs.Starts.{asked_of, range_key, is_ipv6_in_ipv4, lacks_subtree, start_node, first_of, refused_start, begin_of};
+ghost use Rattle.walk.specs.Starts.{whole_range, asked_of, range_key, is_ipv6_in_ipv4, lacks_subtree, start_node, first_of, refused_start, begin_of};
 
 use crate::{Asked, First, Range, Started, Walk};
 use handle::{Handle, fits};
@@ -10,6 +10,22 @@ use number::{Key, masked};
 use place::{Options, Place, has_ipv4_subtree};
 use refusal::Refusal;
 use tree::lookup::descend;
+
+impl Range {
+    // All addresses of the image's own width.
+    pub fn whole(h: Handle) -> Range
+        ensures { result ≡ whole_range h }
+    {
+        if h.version == 4 {
+            Range::Ipv4 { addr: 0, len: 0 }
+        } else {
+            Range::Ipv6 {
+                addr: Key { high: 0, low: 0 },
+                len: 0,
+            }
+        }
+    }
+}
 
 impl From<Range> for Asked {
     ghost from_gives = { λ range asked. asked ≡ asked_of range };

@@ -39,7 +39,7 @@ overflow_mul-more c = let f = fit _ _ c.requires.image_value in omega (arith, f.
 
 pub loop-more-init : goal.loop-more-init
 unfolding tour_of
-loop-more-init c = (refl, refl, rw (c.begin-started.ensures, c.whole_range.ensures) refl)
+loop-more-init c = (refl, refl, rw (c.begin-started.ensures, c.whole.ensures) refl)
 
 pub mark_rows-requires : goal.mark_rows-requires
 mark_rows-requires c =
