@@ -63,6 +63,7 @@ pub fn set_state(bits: &mut [u64], t: usize, state: Mark)
 }
 
 // The next place that may be marked: those between are not. It is in the same word, or begins the next.
+#[tactic(auto, unfolding(crate::specs::Marks::next_marked))]
 pub fn next_marked(bits: &[u64], t: usize) -> usize
     requires { (t / 64 * 2 < length bits.now) × (t < 2 ^ 60) }
     ensures { result ≡ next_marked bits.now t }

@@ -1,9 +1,9 @@
 -- Laws of the entries: a part of the data section is a part of the image, and what a lookup depends on.
 use Prim.Native.Nat.{ℕ, ◌+◌, ◌*◌, ◌/◌}
-use mathlib.Core.Path.{◌≡◌, refl, sym, ap, ◌∙◌}
+use mathlib.Core.Path.{◌≡◌, refl}
 use mathlib.Core.Bool.{Bool, true, false, cond}
 use mathlib.Core.List.{List, []}
-use native.Mathlib.Nat.{add-zero, add_assoc}
+use native.Mathlib.Nat.{add_assoc}
 use native.Mathlib.Omega.{arith}
 use lib.ListN.{length, get_or}
 use Rattle.std.specs.Prelude.{Option, Some, None, Result, Ok, Err, unwrap_or}
@@ -16,16 +16,16 @@ use Rattle.handle.specs.Handle.{fits_of}
 use Rattle.handle.specs.declared.Handle.{Handle}
 use Rattle.handle.proofs.HandleLaws.{Fit, fit}
 use Rattle.tree.proofs.RecordLaws.{Same}
-use Rattle.lookup.specs.Lookup.{asked_of}
+use Rattle.lookup.specs.Lookup.{asked_of, Fitting}
 use Rattle.lookup.specs.declared.Address.{Address}
 use Rattle.lookup.specs.declared.Way.{Way}
-use Rattle.lookup.proofs.LookupLaws.{found_same}
+use Rattle.lookup.proofs.LookupLaws.{asked_fitting, found_same}
 use Rattle.section.specs.Section.{section_of, barred_of, lent_section}
 use Rattle.section.proofs.SectionLaws.{part_of_image, section_length, section_bytes}
 use Rattle.stored.specs.Stored.{resolved_at}
 use Rattle.value.specs.Value.{read_at}
 use Rattle.value.specs.Parts.{size_read, payload_of, span_of, part_at, parts, spanned}
-use Rattle.value.proofs.PartLaws.{part_within}
+use Rattle.value.proofs.PartLaws.{part_within, handed_out}
 use Rattle.path.specs.declared.Cursor.{Cursor}
 use Rattle.maxminddb.specs.Entries.{on_asked, lookup_of, part_found, placed, part_of, read_of}
 
@@ -68,16 +68,14 @@ pub part_of_found : (image : List ℕ) (h : Handle) (c : Cursor) (b : Bool) → 
 unfolding part_of part_found
 part_of_found image h c b = placed_found (h.base + payload_of (resolved_at (section_of image h) c.place)) (size_read b (read_of image h c))
 
-shown_found : (image : Bor (List ℕ)) (x : Option (ℕ × ℕ)) (z : Bor (List ℕ)) → z.now ≡ [] → z.ref_ptr ≡ image.ref_ptr
-    → ((unwrap_or (parts image x) z).now ≡ spanned image.now (unwrap_or x (0, 0)))
-    × ((unwrap_or (parts image x) z).ref_ptr ≡ (image.ref_ptr.0, image.ref_ptr.1 + (unwrap_or x (0, 0)).0))
-shown_found image (Some x) z e f = (refl, refl)
-shown_found image None z e f = (e, f ∙ ap (λ (j : ℕ). (image.ref_ptr.0, j)) (sym (add-zero image.ref_ptr.1)))
-
 pub shown : (image : Bor (List ℕ)) (h : Handle) (c : Cursor) (b : Bool) {o : Option (Bor (List ℕ))} {z r : Bor (List ℕ)}
     → o ≡ parts image (part_found image.now h c b) → r ≡ unwrap_or o z → z.now ≡ [] → z.ref_ptr ≡ image.ref_ptr
     → (r.now ≡ spanned image.now (part_of image.now h c b)) × (r.ref_ptr ≡ (image.ref_ptr.0, image.ref_ptr.1 + (part_of image.now h c b).0))
-shown image h c b {o} {z} {r} d e f g = rw (e, d, part_of_found) (shown_found image (part_found image.now h c b) z f g)
+shown image h c b d e f g = rw (part_of_found image.now h c b) (handed_out image (part_found image.now h c b) d e f g)
+
+-- the way of an address in an image that the handle fits
+pub way_fits : (h : Handle) (n : ℕ) (a : Address) (w : Way) → fits_of h n ≡ true → asked_of h a ≡ Ok w → Fitting w
+way_fits h n a w f e = asked_fitting h n (fit h n f) a w e
 
 -- a lookup depends on the tree's bytes, the handle and the image's length, and on nothing else
 pub lookup_same : (s t : List ℕ) (h : Handle) (a : Address) → length s ≡ length t → Same (h.nodes * (h.size / 4)) s t → lookup_of s h a ≡ lookup_of t h a

@@ -68,7 +68,7 @@ pub fn description<'a>(image: &'a [u8], index: usize) -> &'a [u8]
 }
 
 // The network of an address: its data's offset, if it has data, and its length, counted in the tree.
-#[tactic(auto, unfolding(crate::specs::Entries::lookup_of))]
+#[tactic(auto, using(crate::proofs::EntryLaws::way_fits), unfolding(crate::specs::Entries::lookup_of))]
 pub fn lookup(image: &[u8], h: Handle, address: Address) -> Result<Found, Refusal>
     ensures { result ≡ lookup_of image.now h address }
 {
@@ -92,7 +92,7 @@ pub fn read(image: &[u8], h: Handle, c: Cursor) -> Result<Value, Refusal>
 fn found<'a>(image: &'a [u8], h: Handle, c: Cursor, bytes: bool) -> Option<&'a [u8]>
     ensures { result ≡ parts image.entry (part_found image.now h c bytes) }
 {
-    value::part(
+    value::found(
         section_at(image, h, c.place).ok()?,
         c.place,
         c.charge,

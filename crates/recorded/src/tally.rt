@@ -7,7 +7,7 @@ use refusal::Refusal;
 use std::fmt;
 
 // One count for each question, or for each kind of answer: as many as refusals have numbers, and 0.
-const SLOTS: usize = 25;
+pub const SLOTS: usize = 25;
 
 // What a row counts as: by its question, by the kind of the answer that was recorded, and whether ours is equal.
 #[derive(Clone, Copy)]
@@ -33,17 +33,17 @@ impl Row {
 // Rows, and how many of them are equal.
 #[derive(Clone, Copy, Default)]
 pub struct Count {
-    rows: u64,
-    equal: u64,
+    pub rows: u64,
+    pub equal: u64,
 }
 
 // What was counted: all rows, the first different one, rows by question, and by the kind of answer that was recorded.
 #[derive(Clone, Copy, Default)]
 pub struct Tally {
-    all: Count,
-    first: Option<u64>,
-    questions: [Count; SLOTS],
-    kinds: [u64; SLOTS],
+    pub all: Count,
+    pub first: Option<u64>,
+    pub questions: [Count; SLOTS],
+    pub kinds: [u64; SLOTS],
 }
 
 impl Count {

@@ -43,10 +43,10 @@ fn value_answer(value: Value) -> Answer {
     }
 }
 
-// The part that is handed out is the recorded content, or none where another kind was recorded.
+// The part that is handed out is the recorded content, or empty where another kind was recorded.
 fn is_part(section: &[u8], cursor: Cursor, bytes: bool, is_wanted: bool, content: &[u8]) -> bool {
     let wanted: &[u8] = if is_wanted { content } else { &[] };
-    part(section, cursor.place, cursor.charge, bytes).unwrap_or(&[]) == wanted
+    part(section, cursor.place, cursor.charge, bytes) == wanted
 }
 
 fn is_read(section: &[u8], cursor: Cursor, entry: &Entry<'_>) -> bool {

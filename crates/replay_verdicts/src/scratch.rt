@@ -21,10 +21,16 @@ pub fn fill(scratch: &mut [u64]) {
     }
 }
 
-// Whether so many words are 0 after a call, and from there on each is what it was before.
+// What a word holds after a call: nothing below so many words, and from there on what it held before.
+fn held(at: usize, cleared: usize) -> u64 {
+    if at < cleared { 0 } else { full(at) }
+}
+
+// Whether each word is what it has to be after a call. All are looked at, with no early end, which the compiler makes into a
+// test of many words at once: by `all` the whole program took a third longer.
 pub fn is_left(scratch: &[u64], cleared: usize) -> bool {
-    scratch.iter().enumerate().all(|(at, word)| {
-        let held = if at < cleared { 0 } else { full(at) };
-        *word == held
-    })
+    scratch.iter().enumerate().fold(
+        true,
+        |is_left, (at, word)| is_left & (*word == held(at, cleared)),
+    )
 }

@@ -1,8 +1,8 @@
 -- Table 3-7 row by row, and a text one byte at a time.
-use Prim.Native.Nat.{ℕ, suc, ◌+◌, ◌-◌, ◌≤◌, ◌<◌}
+use Prim.Native.Nat.{ℕ, zero, suc, ◌+◌, ◌-◌, ◌≤◌, ◌<◌}
 use mathlib.Core.Path.{◌≡◌, refl, sym, ap, ◌∙◌}
 use mathlib.Core.List.{List, [], ◌∷◌}
-use mathlib.Core.Bool.{Bool, true, false, cond, ◌&&◌, and-eq-true_iff}
+use mathlib.Core.Bool.{Bool, true, false, cond, ◌&&◌, and-false, and-eq-true_iff}
 use lib.Dec.{leb, eqb, eqb-suc-zero}
 use native.Mathlib.Numerals.{add-one}
 use native.Mathlib.Omega.{arith}
@@ -113,20 +113,24 @@ unfolding run
 run_end s i need lo hi l = rw (drop_of_length-le s l)
 
 -- bytes below 128 are ASCII
-pub ascii_below : (s : List ℕ) → ((i : ℕ) → get_or s i 0 < 128) → ascii s ≡ true
+pub ascii_below : (s : List ℕ) → ((i : ℕ) → get_or s i 0 < 128) → true ≡ ascii s
 unfolding ascii
 ascii_below [] h = refl
 ascii_below (b ∷ s) h =
     let l : b ≤ 0x7f = omega (arith, h 0) in
     rw (le-leb b 0x7f l) (ascii_below s (λ i. h (suc i)))
 
+-- and none with a byte from 128 on is
+pub ascii_not : (s : List ℕ) (i : ℕ) → 128 ≤ get_or s i 0 → false ≡ ascii s
+unfolding ascii
+ascii_not [] i h = let z : 128 ≤ 0 = h in absurd (omega (arith, z))
+ascii_not (b ∷ s) zero h = rw (lt-leb b 0x7f (omega (arith, h))) refl
+ascii_not (b ∷ s) (suc i) h = rw (← ascii_not s i h) (sym (and-false (leb b 0x7f)))
+
+-- the quick test is enough
 pub ascii_well_formed : (s : List ℕ) → ascii s ≡ true → well_formed s ≡ true
 unfolding ascii run
 ascii_well_formed [] a = refl
 ascii_well_formed (b ∷ s) a =
     let h = (and-eq-true_iff (leb b 0x7f) (ascii s)).0 a in
     run_first b s _ (row_ascii b (leb-true b 0x7f h.0)) ∙ ascii_well_formed s h.1
-
--- the quick test is enough for a text of bytes below 128
-pub below_well_formed : (s : List ℕ) → ((i : ℕ) → get_or s i 0 < 128) → true ≡ well_formed s
-below_well_formed s h = sym (ascii_well_formed s (ascii_below s h))

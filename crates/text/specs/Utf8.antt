@@ -2,6 +2,7 @@
 -- and how a scalar value is encoded (table 3-6).
 use Rattle.std.specs.Prelude.{ℕ, ◌+◌, ◌-◌, ◌/◌, ◌%◌, ◌≡◌, List, [], ◌∷◌, ◌++◌, Option, Some, None}
 use Rattle.std.specs.Prelude.{Bool, true, false, cond, ◌&&◌, ◌||◌, leb, eqb}
+use Rattle.std.specs.List.{list_all}
 use Rattle.text.specs.declared.Next.{Next}
 
 -- so many more bytes of this character, and the next of them from lo to hi
@@ -41,8 +42,7 @@ well_formed s = run s (Some (bytes 0 0x80 0xbf))
 
 -- every byte is a character of its own
 unfoldable pub ascii : List ℕ → Bool
-ascii [] = true
-ascii (b ∷ s) = leb b 0x7f && ascii s
+ascii s = list_all (λ b. leb b 0x7f) s
 
 -- a code point that is no surrogate
 abbrev pub scalar : ℕ → Bool

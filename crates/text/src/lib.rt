@@ -1,7 +1,7 @@
 #![tactic(auto)]
 
 ghost use Rattle.std.specs.Prelude.{◌≡◌};
-ghost use Rattle.text.specs.Utf8.{first, after, well_formed};
+ghost use Rattle.text.specs.Utf8.{first, after, well_formed, ascii};
 
 // What may come next: so many more bytes of this character, and the next byte from lo to hi.
 #[derive(Clone, Copy)]
@@ -49,13 +49,20 @@ impl Next {
     }
 }
 
+#[tactic(auto, using(crate::proofs::Laws::ascii_below, crate::proofs::Laws::ascii_not), unfolding(crate::specs::Utf8::ascii))]
+fn ascii(s: &[u8]) -> bool
+    ensures { result ≡ ascii s.now }
+{
+    s.is_ascii()
+}
+
 // Whether the bytes are well-formed UTF-8. Most texts are ASCII, and for those the quick test is enough.
 // Not from_utf8 for the rest: the must-fail edits overlong, surrogate and past_last change rows of the table above.
-#[tactic(auto, using(crate::proofs::Laws::below_well_formed))]
+#[tactic(auto, using(crate::proofs::Laws::ascii_well_formed))]
 pub fn utf8(s: &[u8]) -> bool
     ensures { result ≡ well_formed s.now }
 {
-    if s.is_ascii() {
+    if ascii(s) {
         return true;
     }
     let mut next = Next {

@@ -34,6 +34,25 @@ agree_stop s i k ne (suc m) h =
     (λ e. ap (λ (b : Bool). agree s i m && b) (ne_eqb (get_or s (i + m) 0) (get_or marker m 0) (rw e at ne)) ∙ and-false (agree s i m))
     (below_or_at k m h (ltb k m) refl)
 
+pub last_miss : (s : List ℕ) (k : ℕ) → 0 < k → agree s (k - 1) 14 ≡ false → last_below s k ≡ last_below s (k - 1)
+unfolding last_below
+last_miss s zero p h = absurd (omega arith)
+last_miss s (suc k) p h =
+    let e : suc k - 1 ≡ k = omega arith in
+    rw e (simp (rw e at h))
+
+pub last_hit : (s : List ℕ) (k : ℕ) → 0 < k → agree s (k - 1) 14 ≡ true → last_below s k ≡ Some (k - 1)
+unfolding last_below
+last_hit s zero p h = absurd (omega arith)
+last_hit s (suc k) p h =
+    let e : suc k - 1 ≡ k = omega arith in
+    rw e (simp (rw e at h))
+
+pub last_none : (s : List ℕ) (k : ℕ) → k ≤ 0 → last_below s k ≡ None
+unfolding last_below
+last_none s zero h = refl
+last_none s (suc k) h = absurd (omega arith)
+
 -- what is known of the last place below k
 Last : List ℕ → ℕ → Option ℕ → Type 0
 Last s k (Some i) = (i < k) × (agree s i 14 ≡ true) × ((j : ℕ) → i < j → j < k → agree s j 14 ≡ false)
@@ -129,11 +148,3 @@ marker_missing s f = pick (marker_of s) refl
     pick : (m : Option ℕ) → marker_of s ≡ m → marker_of s ≡ None
     pick (Some k) e = absurd (f k (marker_at s k e).0)
     pick None e = e
-
--- a last place by the places up to the last at which it may stand
-pub marker_is :
-    (s : List ℕ) (r : Option ℕ)
-    → ((i : ℕ) → r ≡ Some i → Stands s i × ((j : ℕ) → i < j → j + 14 ≤ length s → Stands s j → ⊥))
-    → (r ≡ None → (j : ℕ) → j + 14 ≤ length s → Stands s j → ⊥) → r ≡ marker_of s
-marker_is s (Some i) f g = let l = f i refl in sym (marker_found s i l.0 (λ j a h. l.1 j a (stands_inside s j h) h))
-marker_is s None f g = sym (marker_missing s (λ j h. g refl j (stands_inside s j h) h))

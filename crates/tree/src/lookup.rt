@@ -43,6 +43,7 @@ pub fn find_ipv4_start(s: &[u8], size: u64, nodes: u64) -> Place
 
 // What a way ends in at a record, `len` being the length there and `room` that of the data section: nothing at a record
 // that gives no offset inside it.
+#[tactic(auto, unfolding(crate::specs::Lookup::answer_of))]
 pub fn answer(nodes: u64, room: u64, node: u64, len: u64) -> Option<Found>
     ensures { result ≡ answer_of nodes room node len }
 {

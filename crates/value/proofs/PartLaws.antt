@@ -1,13 +1,15 @@
 -- Laws of parts: what is handed out lies in the section.
 use Prim.Native.Nat.{ℕ, ◌+◌, ◌*◌, ◌≤◌}
-use mathlib.Core.Path.{◌≡◌, refl, ap}
-use mathlib.Core.List.{List}
+use mathlib.Core.Path.{◌≡◌, refl, sym, ap, ◌∙◌}
+use mathlib.Core.List.{List, []}
 use mathlib.Core.Bool.{Bool, true, false, cond}
+use native.Mathlib.Nat.{add-zero}
 use native.Mathlib.Omega.{arith}
 use lib.ListN.{length, get_or, take, drop}
 use mir.Syntax.{w8}
 use mir.Val.{Fits}
-use Rattle.std.specs.Prelude.{Option, Some, None, Result, Ok, Err}
+use Rattle.std.specs.Borrow.{Bor}
+use Rattle.std.specs.Prelude.{Option, Some, None, Result, Ok, Err, unwrap_or}
 use Rattle.std.proofs.lemmas.Option.{none-some, same_Some}
 use Rattle.refusal.specs.declared.Refusal.{Refusal}
 use Rattle.charge.specs.Charge.{paid, entered}
@@ -19,7 +21,7 @@ use Rattle.stored.specs.declared.Layout.{Layout}
 use Rattle.stored.proofs.StoredLaws.{lies_whole, resolved_laid}
 use Rattle.text.specs.Utf8.{well_formed}
 use Rattle.value.specs.Value.{if_within, value_of, on_layout, read_at}
-use Rattle.value.specs.Parts.{size_of, size_read, payload_of, span_of, part_at}
+use Rattle.value.specs.Parts.{size_of, size_read, payload_of, span_of, part_at, or_nothing, spanned, parts}
 use Rattle.value.specs.declared.Value.{Value}
 use Rattle.value.specs.declared.Value.TheVariants.{Map, Array, Text, Bytes}
 
@@ -84,3 +86,20 @@ spanned_within p len None l e = absurd (none-some _ e)
 pub part_ends : (s : List ℕ) → ((i : ℕ) → Fits w8 (get_or s i 0)) → (at : ℕ) (c : Charge) (b : Bool) (x : ℕ × ℕ) → part_at s at c b ≡ Some x → x.0 + x.1 ≤ length s
 unfolding part_at
 part_ends s bytes at c b x e = spanned_within (payload_of (resolved_at s at)) (length s) (size_read b (read_at s at c)) (λ n g. part_within s bytes at c b g) e
+
+-- no part: the first 0 bytes, where what was lent starts
+pub no_part : (s : List ℕ) (x q : ℕ × ℕ) → x ≡ (0, 0) → (◌≡◌ {A = List ℕ} [] (spanned s x)) × (◌≡◌ {A = ℕ × ℕ} q (q.0, q.1 + x.0))
+no_part s x q e = (ap (spanned s) (sym e), ap (λ (j : ℕ). (q.0, j)) (sym (add-zero q.1) ∙ ap (λ (y : ℕ × ℕ). q.1 + y.0) (sym e)))
+
+kept : (s : Bor (List ℕ)) (x : Option (ℕ × ℕ)) (z : Bor (List ℕ)) → z.now ≡ [] → z.ref_ptr ≡ s.ref_ptr
+    → ((unwrap_or (parts s x) z).now ≡ spanned s.now (or_nothing x)) × ((unwrap_or (parts s x) z).ref_ptr ≡ (s.ref_ptr.0, s.ref_ptr.1 + (or_nothing x).0))
+kept s (Some x) z e f = (refl, refl)
+kept s None z e f =
+    let n = no_part s.now (0, 0) s.ref_ptr refl in
+    (e ∙ n.0, f ∙ n.1)
+
+-- what is handed out is the part, or the first 0 bytes of what was lent
+pub handed_out : (s : Bor (List ℕ)) (x : Option (ℕ × ℕ)) {o : Option (Bor (List ℕ))} {z r : Bor (List ℕ)}
+    → o ≡ parts s x → r ≡ unwrap_or o z → z.now ≡ [] → z.ref_ptr ≡ s.ref_ptr
+    → (r.now ≡ spanned s.now (or_nothing x)) × (r.ref_ptr ≡ (s.ref_ptr.0, s.ref_ptr.1 + (or_nothing x).0))
+handed_out s x {o} {z} {r} d e f g = rw (e, d) (kept s x z f g)

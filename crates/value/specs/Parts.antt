@@ -1,6 +1,6 @@
 -- The bytes of a text, or of a value of bytes, as a part of the section.
 use Rattle.std.specs.Borrow.{Bor}
-use Rattle.std.specs.Prelude.{ℕ, ◌+◌, List, Bool, cond, take, drop, Option, Some, None, Result, Ok, Err}
+use Rattle.std.specs.Prelude.{ℕ, ◌+◌, List, Bool, cond, take, drop, Option, Some, None, unwrap_or, Result, Ok, Err}
 use Rattle.refusal.specs.declared.Refusal.{Refusal}
 use Rattle.charge.specs.declared.Charge.{Charge}
 use Rattle.stored.specs.Stored.{resolved_at}
@@ -42,6 +42,10 @@ span_of p None = None
 -- the part that reading finds at a place, where it finds one
 unfoldable pub part_at : List ℕ → ℕ → Charge → Bool → Option (ℕ × ℕ)
 part_at s at c bytes = span_of (payload_of (resolved_at s at)) (size_read bytes (read_at s at c))
+
+-- none is the section's first 0 bytes
+abbrev pub or_nothing : Option (ℕ × ℕ) → ℕ × ℕ
+or_nothing x = unwrap_or x (0, 0)
 
 abbrev pub spanned : List ℕ → ℕ × ℕ → List ℕ
 spanned s x = take x.1 (drop x.0 s)

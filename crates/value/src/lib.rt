@@ -5,7 +5,7 @@ ghost use Rattle.std.specs.Prelude.{◌≡◌, ◌+◌, ◌≤◌, length};
 ghost use Rattle.stored.specs.Stored.{Lies};
 ghost use Rattle.value.specs.Numbers.{double_of, float_of, wide_at};
 ghost use Rattle.value.specs.Value.{text_at, value_of, read_at};
-ghost use Rattle.value.specs.Parts.{size_of, part_at, parts};
+ghost use Rattle.value.specs.Parts.{size_of, part_at, or_nothing, spanned, parts};
 ghost use Rattle.value.specs.Empty.{empty_of, empty_at};
 
 use charge::{Charge, count_payload, reserve_values};
@@ -152,13 +152,21 @@ pub fn place(s: &[u8], at: usize, c: Charge, bytes: bool) -> Option<(usize, usiz
     Some((layout.payload, size))
 }
 
-// These bytes, as a part of the section.
+// These bytes, as a part of the section, where there are any.
 #[tactic(auto, using(crate::proofs::PartLaws::part_ends))]
-pub fn part<'a>(s: &'a [u8], at: usize, c: Charge, bytes: bool) -> Option<&'a [u8]>
+pub fn found<'a>(s: &'a [u8], at: usize, c: Charge, bytes: bool) -> Option<&'a [u8]>
     ensures { result ≡ parts s.entry (part_at s.now at c bytes) }
 {
     let (from, size) = place(s, at, c, bytes)?;
     Some(&s[from..from + size])
+}
+
+// These bytes, or the section's first 0: for who asks for a part without asking whether there is one.
+pub fn part<'a>(s: &'a [u8], at: usize, c: Charge, bytes: bool) -> &'a [u8]
+    ensures result_value { result.now ≡ spanned s.now (or_nothing (part_at s.now at c bytes)) }
+    ensures ref_ptr_value { result.ref_ptr ≡ (s.entry.ref_ptr.0, s.entry.ref_ptr.1 + (or_nothing (part_at s.now at c bytes)).0) }
+{
+    found(s, at, c, bytes).unwrap_or(&s[..0])
 }
 
 fn is_empty(head: Head) -> bool

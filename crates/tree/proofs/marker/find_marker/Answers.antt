@@ -1,44 +1,18 @@
-use Prim.Native.Nat.{ℕ, ◌+◌, ◌-◌, ◌≤◌, ◌<◌}
-use mathlib.Core.Path.{◌≡◌, refl, ap, ◌∙◌}
 use native.Mathlib.Omega.{arith}
-use lib.ListN.{length}
-use Rattle.std.specs.Slice.Iter.{windows_size, windows_rest}
-use Rattle.std.proofs.lemmas.Option.{MatchOption-at_some, MatchOption-at_none}
-use Rattle.std.proofs.lemmas.Grind.{common_steps}
-use Rattle.tree.proofs.MarkerLaws.{Stands, marker_is}
+use mathlib.Core.Path.{sym, ap, ◌∙◌}
+use Rattle.tree.specs.Marker.{last_below, marker_of}
+use Rattle.tree.proofs.MarkerLaws.{last_miss, last_hit, last_none}
 use Rattle.tree.proofs.marker.find_marker.Goals as goal
 
--- the windows are gone through from the back: the one at place j is the item length s - 14 - j
+pub loop-at-init : goal.loop-at-init
+unfolding marker_of
+loop-at-init c = ap (last_below _) (omega arith)
+
+pub returns-then-stands-clause-last : goal.returns-then-stands-clause-last
+returns-then-stands-clause-last c = sym (last_hit _ _ (omega arith) (sym c.stands.ensures ∙ c.if-stands.true)) ∙ c.loop-at.invariant
+
+pub loop-at-preserved : goal.loop-at-preserved
+loop-at-preserved c = sym (last_miss _ _ (omega arith) (sym c.stands.ensures ∙ c.if-stands.false)) ∙ c.loop-at.invariant
+
 pub returns-clause-last : goal.returns-clause-last
-returns-clause-last c =
-    let s = c.args.s.now in
-    let w = c.windows.ensures in
-    let r = c.rposition.ensures.runs in
-    let u = r.0 in
-    let size : windows_size u.from ≡ 14 = ap (windows_size {T = ℕ}) r.1 ∙ w.size in
-    let rest : windows_rest u.from ≡ s = ap (windows_rest {T = ℕ}) r.1 ∙ w.rest in
-    marker_is s c.rposition.result
-    (λ i is.
-    let later : (j : ℕ) → i < j → j + 14 ≤ length s → Stands s j → ⊥ = λ j h b e.
-    let k = length s - 14 - j in
-    let q : length s - 14 - k ≡ j = omega arith in
-    let x = (w.runs_back u u.seen (omega arith)).2 k in
-    let y = ((MatchOption-at_some _ _ i is r.2).1 (λ a x f g. refl)).1 k (omega arith) in
-    grind (arith, common_steps)
-    in
-    let here : Stands s i =
-    let x = (w.runs_back u u.seen (omega arith)).2 (length s - 14 - i) in
-    let y = ((MatchOption-at_some _ _ i is r.2).1 (λ a x f g. refl)).0 in
-    grind (arith, common_steps)
-    in
-    (here, later))
-    (λ is j b e.
-    let m = MatchOption-at_none _ _ is r.2 in
-    let v = w.runs_back u u.seen (omega arith) in
-    let all = simp (size, rest) at (v.1 m.0) in
-    let k = length s - 14 - j in
-    let q : length s - 14 - k ≡ j = omega arith in
-    let x = v.2 k in
-    let y = m.1 (λ a x f g. refl) k in
-    let some = u.reads k c.args.s (omega arith) in
-    grind (arith, common_steps))
+returns-clause-last c = sym (last_none _ _ (omega arith)) ∙ c.loop-at.invariant
